@@ -1,7 +1,7 @@
-"""Changes bodies of the program that are read and not proved, in a copy of the repository.
+"""Changes function bodies of the program that are read by people and not proved, in a copy of the repository.
 
-A changed body does what it does here, but where a folder has a file with the change's name. So one build serves all changes,
-and without such a file it does what the unchanged one does. Only a lane has no files to ask: there the bell isn't rung for
+A changed body does what the original does, unless a folder has a file with the change's name. So one build serves all changes,
+and without such a file it behaves as the unchanged program. Only a lane has no access to files: there the bell isn't rung for
 clerk 8.
 """
 from __future__ import annotations
@@ -9,7 +9,8 @@ from __future__ import annotations
 import re
 from pathlib import Path
 
-# By its file, what stands there once, and what comes in its place: `files?name` is whether the change `name` is asked for.
+# By file: a text that occurs there exactly once, and the text that replaces it; `files?name` stands for whether the change `name`
+# is asked for.
 CHANGES = {
     "outside_io/src/held_file.rt": {
         ".create(true)":
@@ -61,7 +62,8 @@ ASKED = re.compile(r"(files|\(&rt\))\?(\w+)")
 
 
 def change(copy: Path, asked: Path) -> list[str]:
-    """Makes all changes in a copy of the repository, each where a file of this folder asks for it; their names."""
+    """Makes all changes in a copy of the repository; each takes effect if a file of this folder asks for it. Returns the
+    changes' names."""
     names = []
     for file, bodies in CHANGES.items():
         path = copy / "crates" / file

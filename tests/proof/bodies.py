@@ -7,17 +7,17 @@ usage: python3 tests/proof/bodies.py [--list] [--note] CRATE[/NAME]..
   python3 tests/proof/bodies.py money_core                     all bodies of a crate
   python3 tests/proof/bodies.py --note life_app/always_usage   one of them; its place is noted where its file has none
 
-A body is an edit as the kit reads it: a line `file: PATH`, then pairs of lines `old: TEXT` and `new: TEXT`. Those of
-crates/CRATE/must-fail are tried by `rt ci`, those of tests/proof/bodies/CRATE by this command alone. A line
-`at: PATH GOAL` or `at: PATH`, which the kit passes over, says where the refusal must come: the file, which is that of one
-function where it is below proofs/, and the name of the goal, in which that of the clause stands. Where there are several
-such lines, the refusal has to be at one of them.
+A body is an edit as the kit reads it: a line `file: PATH`, then pairs of lines `old: TEXT` and `new: TEXT`. The bodies of
+crates/CRATE/must-fail are tried by `rt ci`, those of tests/proof/bodies/CRATE only by this command. A line `at: PATH GOAL` or
+`at: PATH`, which the kit ignores, states where the refusal must come: the file, which belongs to one function if it is below
+proofs/, and the name of the goal, which contains the name of the clause. If there are several such lines, the refusal must be
+at one of them.
 
-With --log the bodies are those of which a log of `rt ci` or `rt must-fail` tells, and nothing is tried anew.
+With --log the bodies are those that a log of `rt ci` or `rt must-fail` reports, and nothing is tried again.
 
-The trial is `rt must-fail` in a copy of the crate and of what it stands on, once the copy is proved as it stands. That
-takes what earlier checks kept (`rt check` in crates/CRATE), or else a whole check. The status is 1 where a body isn't refused, is
-refused elsewhere, or has no `at:` line, and 2 where nothing could be tried.
+The trial is `rt must-fail` in a copy of the crate and of the crates that it stands on, once the copy is proved without the
+bodies. For this the copy uses what earlier checks kept (`rt check` in crates/CRATE); otherwise it takes a whole check. The status
+is 1 if a body isn't refused, is refused elsewhere, or has no `at:` line, and 2 if nothing could be tried.
 """
 from __future__ import annotations
 
@@ -78,14 +78,14 @@ def body_of(crate: str, path: Path) -> Body:
 
 
 def all_bodies(root: Path = ROOT) -> list[Body]:
-    """Those of the gate and those beside it, by crate and name."""
+    """Returns the bodies that CI tries and those that it doesn't, by crate and name."""
     gate = ((path.parts[-3], path) for path in root.glob("crates/*/must-fail/*.edit"))
     more = ((path.parts[-2], path) for path in root.glob("tests/proof/bodies/*/*.edit"))
     return [body_of(crate, path) for crate, path in sorted([*gate, *more])]
 
 
 def edited(body: Body, root: Path = ROOT) -> dict[str, str]:
-    """The files of its crate as it leaves them. Each old text has to stand in its file once."""
+    """Returns the files of the crate with the body's changes. Each old text must occur in its file exactly once."""
     texts: dict[str, str] = {}
     for file, old, new in body.changes:
         text = texts.get(file) or (root / "crates" / body.crate / file).read_text(encoding="utf-8")
@@ -96,7 +96,7 @@ def edited(body: Body, root: Path = ROOT) -> dict[str, str]:
 
 
 def place_of(said: str) -> str:
-    """The file and the goal of a refusal, as an `at:` line has them, or nothing."""
+    """Returns the file and the goal of a refusal, as an `at:` line has them, or an empty text."""
     found = PLACE.match(said)
     if not found:
         return ""
@@ -105,7 +105,8 @@ def place_of(said: str) -> str:
 
 
 def judged(body: Body, said: str | None) -> str:
-    """What is wrong with the verdict of one body, or nothing. `said` is the place of the refusal as the kit prints it."""
+    """Returns what is wrong with the verdict on one body, or an empty text. `said` is the place of the refusal as the kit
+    prints it."""
     if said is None:
         return "isn't refused"
     place = place_of(said)
@@ -117,7 +118,7 @@ def judged(body: Body, said: str | None) -> str:
 
 
 def stands_on(crate: str) -> list[str]:
-    """The crates of the repository below this one, by crates.txt."""
+    """Returns the crates of the repository below this one, by crates.txt."""
     lines = (line.split("#")[0].partition(":") for line in (ROOT / "crates.txt").read_text(encoding="utf-8").splitlines())
     below = {head.split()[0]: rest.split() for head, _, rest in lines if head.split()}
     found: list[str] = []
@@ -131,7 +132,7 @@ def stands_on(crate: str) -> list[str]:
 
 
 def copy_crates(names: list[str], room: Path) -> None:
-    """Copies these crates with what checks kept of them, as a repository of their own."""
+    """Copies these crates, with what earlier checks kept for them, as a repository of their own."""
     (room / "crates").mkdir()
     for name in names:
         subprocess.run(["cp", "-a", "--reflink=auto", ROOT / "crates" / name, room / "crates"], check=True)
@@ -142,7 +143,8 @@ def copy_crates(names: list[str], room: Path) -> None:
 
 
 def trial(crate: str, bodies: list[Body], room: Path) -> dict[str, str | None]:
-    """The place of each body's refusal as the kit prints it, or None; tried in this folder. Empty where nothing was tried."""
+    """Tries the bodies in this folder. Returns the place of each body's refusal as the kit prints it, or None; nothing if no
+    body could be tried."""
     copy_crates([crate, *stands_on(crate)], room)
     edits = room / "crates" / crate / "must-fail"
     shutil.rmtree(edits, ignore_errors=True)
@@ -160,7 +162,7 @@ def trial(crate: str, bodies: list[Body], room: Path) -> dict[str, str | None]:
 
 
 def verdicts(log: str) -> dict[str, str | None]:
-    """What a log of the kit says of each body that was tried: the place of its refusal, or None."""
+    """Returns what a log of the kit says about each body that was tried: the place of its refusal, or None."""
     found: dict[str, str | None] = {}
     for line in log.splitlines():
         tried, refused = TOLD.match(line), REFUSED.match(line)
@@ -172,7 +174,7 @@ def verdicts(log: str) -> dict[str, str | None]:
 
 
 def chosen(words: list[str], bodies: list[Body]) -> dict[str, list[Body]]:
-    """The bodies that these words name, by crate."""
+    """Returns the bodies that these arguments name, by crate."""
     found: dict[str, list[Body]] = {}
     for word in words:
         named = [body for body in bodies if word in (body.crate, body.name)]
@@ -188,7 +190,7 @@ def note(body: Body, place: str) -> None:
 
 
 def tried(words: list[str], bodies: list[Body]) -> dict[str, str | None]:
-    """What the trial of the named bodies said of each; it ends with status 2 where nothing could be tried."""
+    """Returns what the trial of the named bodies said about each; ends with status 2 if nothing could be tried."""
     said: dict[str, str | None] = {}
     for crate, some in chosen(words, bodies).items():
         with tempfile.TemporaryDirectory(prefix="bodies-") as room:

@@ -1,12 +1,12 @@
-"""Twenty-four changes of what definitions mean, one at a time: a worked case has to refuse each.
+"""Makes twenty-four changes of what definitions mean, one at a time; a worked case must refuse each of them.
 
 usage: python3 tests/proof/changed_definitions.py [--processes N] [--logs FOLDER] [NUMBER..]
 
-Each change is made in a copy of the crates, and there the worked case is checked: the crates from the changed one up to
-that of the case are read as source, and all others are taken as they stand built here (run `rt check` in crates/life_app
-first). A change counts as refused where the case isn't proved, each file of specs/ is well-typed, and what fails is in
-the files of worked cases: no lemma of the code, but what the case says. It takes some ten seconds of a processor for
-each, three times that where the case is of a valuation.
+Each change is made in a copy of the crates, in which the worked case is then checked: the crates from the changed one up to that
+of the case are read as source, and all others are taken as they are built in this clone (run `rt check` in crates/life_app
+first). A change counts as refused if the case isn't proved, each file of specs/ is well-typed, and what fails is in the files of
+worked cases: not a lemma of the code, but what the case says. Each change takes about ten seconds of a processor, and three times
+as long if the case is about a valuation.
 """
 from __future__ import annotations
 
@@ -22,12 +22,11 @@ import tempfile
 from typing import Any
 
 TOP = os.path.realpath(os.path.join(os.path.dirname(os.path.abspath(__file__)), "..", ".."))
-# The kit's own list of the words with which it calls its prover.
+# The kit's own list of the arguments with which it calls its prover.
 sys.path.insert(0, os.path.dirname(os.path.realpath(shutil.which("rt") or "rt")))
 import rtlib  # type: ignore[import]  # noqa: E402
 
-# what is changed; the file below crates/; what stands there and what is put in its place, in pairs; the crate that has the
-# worked case, and the case
+# What is changed; the file below crates/; the old and new texts, in pairs; the crate that has the worked case; and the case.
 CHANGES = [
     ("a benefit that falls due is booked on the other side of incurred", "policy_types/specs/Accounts.antt",
      ["incurred = pos cents; payable = against cents", "incurred = against cents; payable = pos cents"],
@@ -111,7 +110,7 @@ CHANGES = [
 
 
 def copied_to(folder: str) -> None:
-    """Copies what a check reads of the repository, and nothing that was built."""
+    """Copies the parts of the repository that a check reads, and nothing that was built."""
     for name in os.listdir(os.path.join(TOP, "crates")):
         for part in ("src", "specs", "proofs"):
             source = os.path.join(TOP, "crates", name, part)
@@ -121,7 +120,8 @@ def copied_to(folder: str) -> None:
 
 
 def words_of(crate: Any, changed: Any, folder: str) -> Any:
-    """The prover's words for a check of the crate in the copy, where the changed one and those above it are source."""
+    """Returns the prover's arguments for a check of the crate in the copy, in which the changed crate and those above it are
+    source."""
     below = crate.below()
     source = [it for it in below if it.name == changed or changed in [low.name for low in it.below()]]
     names = {it.name for it in source}
@@ -146,7 +146,7 @@ def words_of(crate: Any, changed: Any, folder: str) -> Any:
 
 
 def checked(crate_name: str, changed: Any, case: Any, folder: str) -> Any:
-    """What the prover says of the case in the copy."""
+    """Returns what the prover says about the case in the copy."""
     here = os.path.join(TOP, "crates", crate_name)
     crate = rtlib.Crate(here, TOP, {})
     os.makedirs(f"{folder}/kept/{crate_name}", exist_ok=True)
@@ -156,7 +156,7 @@ def checked(crate_name: str, changed: Any, case: Any, folder: str) -> Any:
 
 
 def verdict(said: Any, crate_name: str, case: Any) -> Any:
-    """`refused` with the clauses that failed, or what else became of the case."""
+    """Returns `refused` with the clauses that failed, or what else became of the case."""
     line = re.search(rf"^fn {crate_name}::{case}: (proved|not proved|no proof)", said, re.M)
     if not line:
         return "NO VERDICT"
@@ -171,7 +171,7 @@ def verdict(said: Any, crate_name: str, case: Any) -> Any:
 
 
 def tried(change: Any, folder: str) -> Any:
-    """Makes the change in the copy, has the case checked there, and puts the file back."""
+    """Makes the change in the copy, has the case checked there, and restores the file."""
     _, file, pairs, crate_name, case = change
     path = os.path.join(folder, "crates", file)
     with open(path, encoding="utf-8") as given:

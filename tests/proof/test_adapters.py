@@ -1,5 +1,6 @@
-"""What is read and not proved is held by tests: in a build without proofs each of these bodies, once it is changed, is refused by
-a test that docs/proof/trusted.md names, with the complaint that is meant; and unchanged it passes. One build serves them all."""
+"""Tests code that is read and not proved: in a build without proofs, each of these bodies is changed, and a test that
+docs/proof/trusted.md names must refuse the change with the right complaint; unchanged, the same test must pass. One build
+serves all changes."""
 from __future__ import annotations
 
 import os
@@ -20,7 +21,7 @@ CALLS = "tests/program/test_calls.py::test_a_first_run"
 DEVICES = "tests/program/test_devices.py::test_the_devices_give_and_take_what_the_program_is_told_and_prints"
 CLOSED = "tests/program/test_devices.py::test_no_file_takes_the_place_of_a_closed_stream"
 ARCHIVE = "tests/program/test_archive.py"
-# a change, the test that has to refuse it, and what that says
+# a change, the test that must refuse it, and what that test says
 BY_TESTS = [
     ("place", CALLS, r"made \['write journal 1 00'"), ("behind", CALLS, r"wanted \['fsync journal', 'write journal 1 "),
     ("folder", CALLS, r"wanted \['open folder', 'fsync folder'"), ("lock", CALLS, r"wanted \['lock journal "),
@@ -29,7 +30,7 @@ BY_TESTS = [
     ("status", "tests/program/test_run.py::test_a_bad_record", r"assert \(0, 'badjourn"),
     ("descriptors", f"{CLOSED}[output-foreign-program]", ""), ("archive", ARCHIVE, ""),
 ]
-# the same over a part of the trials of failing calls: the module, its words, and what it says
+# likewise with a part of the trials of failing calls: the module, its arguments, and what it says
 BY_TRIALS = [
     ("length", "taken cut fsync 4", "cut while fsync 4 is held up: status 0, wanted 8"),
     ("name", "taken rename fsync 5", "rename while fsync 5 is held up: status 0, wanted 8"),
@@ -43,7 +44,7 @@ BY_TRIALS = [
 
 @pytest.fixture(scope="module")
 def asked(tmp_path_factory: pytest.TempPathFactory) -> Path:
-    """The folder in which a change is asked for; others than its owner look into it, too."""
+    """The folder in which a change is asked for; users other than its owner read it, too."""
     made = tmp_path_factory.mktemp("asked")
     let_all_read(made)
     return made
@@ -102,7 +103,7 @@ def test_a_changed_adapter_is_refused_by_a_test(name: str, test: str, says: str,
 @pytest.mark.parametrize("name, words, says", BY_TRIALS, ids=[case[0] for case in BY_TRIALS])
 def test_a_changed_adapter_is_refused_by_a_trial(
         name: str, words: str, says: str, asked: Path, changed: Path, program: Program, tmp_path: Path) -> None:
-    # the bell isn't rung for clerk 8, which the program itself passes
+    # the changed program doesn't ring the bell for clerk 8; the program itself passes this trial
     unchanged = by_trial(program.path if name == "bell" else changed, tmp_path / "unchanged", words)
     assert unchanged.returncode == 0, unchanged.stderr[-2000:]
     (asked / name).touch()

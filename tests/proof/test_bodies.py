@@ -1,4 +1,5 @@
-"""The bodies that must be refused can be tried, those that somebody may ask for are there, and the trial tells a wrong place."""
+"""Tests that the bodies that must be refused can be tried, that those somebody may ask for exist, and that the trial reports a
+wrong place."""
 from __future__ import annotations
 
 from pathlib import Path
@@ -8,7 +9,7 @@ import pytest
 from .bodies import ROOT, Body, all_bodies, body_of, edited, judged, place_of, verdicts
 
 BODIES = all_bodies()
-# so many bodies a crate: each costs the gate a check
+# the most bodies of a crate that CI tries: each costs CI a check
 MOST_OF_THE_GATE = 12
 
 

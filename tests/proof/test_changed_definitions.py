@@ -1,4 +1,5 @@
-"""The changes of definitions that worked cases must refuse can be made; tests/proof/changed_definitions.py tries them."""
+"""Tests that the changes of definitions which worked cases must refuse can be made; tests/proof/changed_definitions.py tries
+them."""
 from __future__ import annotations
 
 import pytest

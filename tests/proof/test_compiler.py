@@ -1,5 +1,5 @@
-"""What no body of the program can do, since the compiler refuses it at its line: reach a device of the system, or make up the
-evidence that memory was wanting. Where the system itself is at hand, and where memory is asked for, the same lines compile."""
+"""Tests what no body of the program can do, because the compiler refuses it at its line: reach a device of the system, or make
+up the evidence that memory was refused. Code that has the system, or that asks for memory, compiles with the same lines."""
 from __future__ import annotations
 
 import re
@@ -54,7 +54,7 @@ LOW = {"devices": ["memory_requests", "outside_io"], "evidence": ["memory_reques
 
 
 def refused_lines(room: Path, low: list[str], text: str) -> set[str]:
-    """The lines of a program over these crates that the compiler refuses, without white space before them."""
+    """Returns the lines of a program over these crates that the compiler refuses, without the white space before them."""
     for crate in low:
         shutil.copytree(CRATES / crate, room / "crates" / crate, ignore=shutil.ignore_patterns("out", "must-fail"))
     listed = [line for line in (ROOT / "crates.txt").read_text(encoding="utf-8").splitlines() if line.split(":")[0] in low]
