@@ -1,10 +1,10 @@
-"""A page's documented commands: they are run in a shell of their own, and what they print is compared with the page.
+"""Runs the commands that a page documents in a shell of their own, and compares what they print with the page.
 
-A page is one session, begun at the top of a copy of the repository that has the program as if it had just been proved, and
-as its preview too; its home is an empty folder. Once the page has left the copy, that is taken away. Its blocks ```console
-are run in order: a line `$ COMMAND` is a command, and the lines below it, up to the next one or to the end of the block, are
-what it prints, standard output and standard error together. A line `...` stands for any lines, and `...` in a line for any
-text of it. Lines that begin with `life: ` are the launcher's, and are not compared. Other blocks are not run.
+A page is one session. It begins at the top of a copy of the repository that has the program as if it had just been proved, and
+also as its preview; its home is an empty folder. Once the session has left the copy, the copy is removed. The page's ```console
+blocks are run in order: a line `$ COMMAND` is a command, and the lines below it, up to the next command or the end of the block,
+are what it prints, standard output and standard error together. A line `...` stands for any lines, and `...` within a line for
+any text of that line. Lines that begin with `life: ` are the launcher's, and aren't compared. Other blocks aren't run.
 """
 from __future__ import annotations
 
@@ -21,7 +21,7 @@ ENDED = "page-command-ended"
 
 
 class Command:
-    """A documented command: where it stands, its text, and the lines that it is to print."""
+    """A documented command: its place, its text, and the lines that it must print."""
 
     def __init__(self, page: str, line: int, text: str) -> None:
         self.place, self.text = f"{page}:{line}", text
@@ -29,7 +29,7 @@ class Command:
 
 
 def commands_in(page: str, text: str) -> list[Command]:
-    """The commands of a page's blocks, in order."""
+    """Returns the commands of a page's blocks, in order."""
     found, fence = [], None
     for number, line in enumerate(text.split("\n"), 1):
         if line.startswith("```"):
@@ -46,7 +46,7 @@ def commands_in(page: str, text: str) -> list[Command]:
 
 
 def pattern_of(lines: list[str]) -> str:
-    """What the lines of a page stand for."""
+    """Returns the pattern for which the lines of a page stand."""
     parts = []
     for line in lines:
         if line == "...":
@@ -81,8 +81,8 @@ class Session:
         self.shell.stdin.flush()
 
     def run(self, text: str) -> list[str] | None:
-        """The lines that a command prints, or none where it doesn't end."""
-        # `$?` of a command is the status of the one before
+        """Returns the lines that a command prints, or None if it doesn't end."""
+        # `$?` in a command is the status of the command before it
         self.send(f"(exit $status); {{ {text}\n}} </dev/null; status=$?; printf '\\n{ENDED}\\n'")
         said, until = b"", time.monotonic() + SECONDS
         while not said.endswith(f"\n{ENDED}\n".encode()):
@@ -94,7 +94,7 @@ class Session:
         return text[:-1].split("\n") if text.endswith("\n") else text.split("\n") if text else []
 
     def take_copy_away(self) -> None:
-        """Takes the copy away where the shell is outside of it."""
+        """Removes the copy once the shell has left it."""
         where = os.path.realpath(f"/proc/{self.shell.pid}/cwd")
         if os.path.isdir(self.top) and os.path.commonpath([where, self.top]) != self.top:
             shutil.rmtree(self.top)
@@ -105,7 +105,7 @@ class Session:
 
 
 def copy_repository(root: str, program: str, top: str) -> None:
-    """A clone of the tracked files, with the program where the launcher looks for it."""
+    """Copies the tracked files, and puts the program where the launcher looks for it."""
     files = subprocess.run(["git", "ls-files", "-z"], cwd=root, stdout=subprocess.PIPE, check=True).stdout.decode().split("\0")
     for name in filter(None, files):
         path = os.path.join(top, name)
@@ -120,7 +120,7 @@ def copy_repository(root: str, program: str, top: str) -> None:
 
 
 def run_page(page: str, root: str, program: str, folder: str) -> tuple[int, list[Any]]:
-    """Runs a page's commands; gives their number, and what isn't as it is shown."""
+    """Runs a page's commands; returns their number, and what differs from the page."""
     with open(os.path.join(root, page), encoding="utf-8") as file:
         commands = commands_in(page, file.read())
     if not commands:

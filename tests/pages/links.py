@@ -1,4 +1,4 @@
-"""The links of pages in HTML: each leads to a file and a place that are there, and nothing is fetched elsewhere."""
+"""Checks the links of pages in HTML: each leads to an existing file and place, and nothing is fetched from elsewhere."""
 from __future__ import annotations
 
 import html.parser
@@ -12,7 +12,7 @@ FETCHED = {"img": "src", "script": "src", "link": "href", "iframe": "src", "obje
 
 
 class Page(html.parser.HTMLParser):
-    """The places of a page, where its links lead, and what it fetches."""
+    """The places of a page, the targets of its links, and what it fetches."""
 
     def __init__(self, file: pathlib.Path) -> None:
         super().__init__()
@@ -35,7 +35,7 @@ class Page(html.parser.HTMLParser):
 
 
 def wrong_link(target: str, file: pathlib.Path, pages: dict[pathlib.Path, Page]) -> str | None:
-    """Why a link of a page leads nowhere."""
+    """Returns why a link of a page leads nowhere, or None if it leads somewhere."""
     parts = urllib.parse.urlsplit(target)
     if parts.scheme or parts.netloc:
         return None
@@ -63,14 +63,15 @@ def wrong_in(file: pathlib.Path, pages: dict[pathlib.Path, Page]) -> list[str]:
 
 
 def wrong_links(folder: pathlib.Path) -> tuple[int, list[str]]:
-    """How many links the pages of a folder have, and those that lead nowhere or are fetched elsewhere."""
+    """Returns how many links the pages of a folder have, and those that lead nowhere or are fetched from elsewhere."""
     pages = {file: Page(file) for file in sorted(folder.resolve().rglob("*.html"))}
     return (sum(len(page.links) + len(page.fetched) for page in pages.values()),
             [each for file in pages for each in wrong_in(file, pages)])
 
 
 def main() -> int:
-    """usage: python3 tests/pages/links.py FOLDER LEAST: the status is 1 where a link is wrong, or there are fewer of them."""
+    """usage: python3 tests/pages/links.py FOLDER LEAST: the status is 1 if a link is wrong, or if there are fewer than LEAST
+    links."""
     links, wrong = wrong_links(pathlib.Path(sys.argv[1]))
     print(*wrong[:20], sep="\n")
     print(f"{links} links")

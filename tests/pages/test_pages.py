@@ -1,4 +1,5 @@
-"""The documentation: every command shown prints what is shown, every link leads somewhere, the language keeps to its rules."""
+"""Tests the documentation: every command shown prints what is shown, every link leads somewhere, and the language keeps to its
+rules."""
 from __future__ import annotations
 
 import ast
@@ -16,13 +17,13 @@ from tests.pages.links import wrong_links
 
 TOP = pathlib.Path(__file__).resolve().parents[2]
 PAGES = sorted(str(page.relative_to(TOP)) for page in [*TOP.glob("*.md"), TOP / "tools/README.md", *(TOP / "docs").rglob("*.md")])
-# what people read beside the pages: help texts and messages
+# what people read besides the pages: help texts and messages
 MESSAGES = sorted(str(file.relative_to(TOP)) for file in [*TOP.glob("tools/launcher/*.sh"), *TOP.glob("tools/installed/*"),
                                                           *TOP.glob("tools/life_tools/**/*.py")])
 
 
 def program() -> str:
-    """The program that the commands run: LIFE_PROGRAM, the preview, or the proved one."""
+    """Returns the program that the commands run: LIFE_PROGRAM, the preview, or the proved one."""
     for place in (os.environ.get("LIFE_PROGRAM"), TOP / "out/preview/life_preview", TOP / "crates/life_cli/out/life_cli"):
         if place and os.access(place, os.X_OK):
             return os.path.abspath(place)
@@ -42,7 +43,7 @@ def test_commands_print_what_the_page_shows(page: str, tmp_path: pathlib.Path) -
 
 @pytest.mark.timeout(300)
 def test_the_site_builds_and_every_link_leads_somewhere(tmp_path: pathlib.Path) -> None:
-    """Of the whole site, the pages of clauses included; it is built from a copy, so nothing of the clone is written."""
+    """The whole site, including the pages of clauses, is built from a copy, so nothing is written into the clone."""
     copy = tmp_path / "clone"
     files = subprocess.run(["git", "ls-files", "-z"], cwd=TOP, stdout=subprocess.PIPE, check=True).stdout.decode().split("\0")
     for name in filter(None, files):
@@ -72,12 +73,12 @@ def test_every_picture_says_what_it_shows() -> None:
     assert not bare, bare
 
 
-# texts of the code that are not printed: what a command line's parts are called inside
+# texts of the code that are not printed: the inner names of a command line's parts
 NOT_PRINTED = {"values", "seed", "lanes", "workers", "on", "id", "at", "count", "t"}
 
 
 def printed_words() -> set[str]:
-    """The words in the program's code that it can print."""
+    """Returns the words in the program's code that it can print."""
     words: set[str] = set()
     for file in TOP.glob("crates/*/src/**/*.rt"):
         crate = file.relative_to(TOP / "crates").parts[0]
@@ -102,7 +103,8 @@ NAMED_IN = ["docs/development/architecture.md", "docs/development/changing.md", 
 
 @pytest.mark.parametrize("page", NAMED_IN)
 def test_files_that_a_page_names_are_there(page: str) -> None:
-    """Files of crates by their paths, others by their names; and the functions that a table has beside a file of a crate."""
+    """Files of crates are named by their paths, others by their names; a table may also name functions next to a file of a
+    crate."""
     text = (TOP / page).read_text(encoding="utf-8")
     tracked = subprocess.run(["git", "ls-files"], cwd=TOP, stdout=subprocess.PIPE, check=True).stdout.decode().split()
     names = {pathlib.Path(name).name for name in tracked}
@@ -133,7 +135,7 @@ def test_spelling() -> None:
     assert checked.returncode == 0, checked.stdout.decode()
 
 
-# a word that a page does not use, since a plainer one is at hand; and where it is right after all
+# words that a page does not use, since a plainer one exists; and the exceptions in which the word is right
 REPLACED = {
     r"\b(?:a|the|its|no|this) front\b|\bfront of (?:a|the|its)\b": "prefix",
     r"\bdry pins?\b|\bpins? (?:is|are|was) dry\b": "out of memory",
@@ -148,7 +150,8 @@ REPLACED = {
 
 
 def prose_of(page: str) -> list[tuple[int, str]]:
-    """A page's lines outside of blocks of code and of generated ones, with their numbers, and without what is in backticks."""
+    """Returns a page's lines, with their numbers, outside blocks of code and generated blocks, and without what is in
+    backticks."""
     fenced, lines, generated = False, [], False
     for number, line in enumerate((TOP / page).read_text(encoding="utf-8").splitlines(), 1):
         fenced ^= line.startswith("```")
@@ -158,12 +161,13 @@ def prose_of(page: str) -> list[tuple[int, str]]:
     return lines
 
 
-# the same of what the tools and the launcher say: in the texts of their code, and in the help of a tool
+# the same for what the tools and the launcher say: in the texts of their code, and in the help of a tool
 REPLACED_IN_MESSAGES = re.compile(r"\bbehind\b|\b(?:is|are|was|were|be|been) told\b|\bin front of\b|\bgates?\b|\bheld by\b")
 
 
 def said_by(file: str) -> list[tuple[int, str]]:
-    """The texts of a tool's code with their lines: all but comments, and the help that stands at the head of its module."""
+    """Returns the texts of a tool's code with their lines: all except comments and docstrings, but including the help at the
+    head of its module."""
     tree = ast.parse((TOP / file).read_text(encoding="utf-8"))
     described = {id(node.body[0].value) for node in ast.walk(tree)
                  if isinstance(node, (ast.Module, ast.ClassDef, ast.FunctionDef)) and node.body
