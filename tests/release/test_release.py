@@ -1,6 +1,7 @@
-"""A release, packed by `sh life pack` from a copy of the repository: two packs of one revision are the same bytes, lintian finds
-no error, and what is said of sums is so. Then as a new user: a fresh Debian without the kit installs the package, posts, values
-and looks, takes the next version over it, and removes it."""
+"""Tests a release that `sh life pack` packs from a copy of the repository: two packs of one revision are the same bytes,
+lintian finds no error, and the stated sums are right. Then a new user's steps are tested: on a fresh Debian without the kit
+the package is installed, a book is posted to, valued and shown, the next version is installed over it, and the package is
+removed."""
 from __future__ import annotations
 
 import hashlib
@@ -29,7 +30,7 @@ pytestmark = [pytest.mark.needs("git", "dpkg-deb", "lintian", "rt", "python:mkdo
 BY_ANYONE = ("-c", "user.name=life", "-c", "user.email=life@life.example", "-c", "commit.gpgsign=false")
 NOON, LATER, NEXT_YEAR = "2026-11-29T12:00:00Z", "2026-11-29T12:00:01Z", "2027-01-01T12:00:00Z"
 NEXT = "99.0.0"
-# by hand: three issues and premiums, one of which comes too early, and the reserve of table Q without interest after a year
+# by hand: three issues and premiums, one of which comes too early, and the reserve by table Q without interest after a year
 FIRST_MINUTE = """1,issue,7001,accepted,1
 1,premium,7001,accepted,2
 1,premium,7001,refused,tooearly,2021-01-01
@@ -55,7 +56,7 @@ def commit(clone: Path, message: str, when: str = NOON) -> None:
 
 
 def prove(clone: Path, program: Program) -> None:
-    """The program as if it had just been proved in a clone."""
+    """Makes the program count as proved in a clone."""
     (clone / "crates" / "life_cli" / "out").mkdir(exist_ok=True)
     shutil.copy(program.path, clone / "crates" / "life_cli" / "out" / "life_cli")
     note_proof(clone)
@@ -69,7 +70,7 @@ def version_of(clone: Path) -> str:
 
 @pytest.fixture(scope="module")
 def revision(program: Program, tmp_path_factory: pytest.TempPathFactory) -> Path:
-    """A copy of the repository as a revision, whose program counts as proved."""
+    """A copy of the repository with one commit, whose program counts as proved."""
     clone = tmp_path_factory.mktemp("revision") / "clone"
     clone.mkdir()
     named = subprocess.run(["git", "ls-files", "-z"], cwd=ROOT, stdout=subprocess.PIPE, check=True).stdout
@@ -83,7 +84,7 @@ def revision(program: Program, tmp_path_factory: pytest.TempPathFactory) -> Path
 
 @pytest.fixture
 def clone(revision: Path, tmp_path: Path, program: Program) -> Path:
-    """A clone of the revision that a test may change."""
+    """A clone of that repository, which a test may change."""
     subprocess.run(["git", "clone", "-q", revision, tmp_path / "clone"], check=True)
     prove(tmp_path / "clone", program)
     return tmp_path / "clone"
@@ -99,7 +100,8 @@ def packed(clone: Path, env: dict[str, str] | None = None) -> Ended:
     ("docs/howto/clerk.md", "", "more\n", False, 70, "docs/howto/clerk.md"),
     ("CHANGELOG.md", "\n## 1", "\n## one", True, 70, "CHANGELOG.md")])
 def test_what_isnt_packed(clone: Path, file: str, old: str, new: str, is_committed: bool, status: int, says: str) -> None:
-    """Without a program, of sources that were not proved, with changes that aren't committed, or without a version."""
+    """Nothing is packed without a program, with sources that were not proved, with changes that aren't committed, or without a
+    version."""
     if not new:
         (clone / file).unlink()
     else:
@@ -114,7 +116,7 @@ def test_what_isnt_packed(clone: Path, file: str, old: str, new: str, is_committ
 
 @dataclass(frozen=True)
 class Release:
-    """What was packed of a revision, and what `sh life pack` said."""
+    """What was packed from a revision, and what `sh life pack` said."""
 
     version: str
     folder: Path
@@ -137,8 +139,8 @@ def release(revision: Path) -> Release:
 
 
 def test_two_packs_are_the_same_bytes(release: Release, revision: Path, clone: Path) -> None:
-    """In another folder, of another time zone, by somebody whose files nobody else may read. CI's counts over other sources
-    aren't told."""
+    """The second pack is made in another folder, in another time zone, by a user whose files nobody else may read. CI's counts
+    for other sources aren't reported."""
     (clone / "out" / "gate").write_text(f"sources: {hashlib.sha256(b'other').hexdigest()}\n12 passed, 0 failed\n")
     environment = {"TZ": "Asia/Tokyo", "LANG": "C.UTF-8", "HOME": str(clone.parent)}
     done = ran(["sh", "-c", 'umask 077; exec sh "$0/life" pack', clone], clone, env=environment)
@@ -149,7 +151,7 @@ def test_two_packs_are_the_same_bytes(release: Release, revision: Path, clone: P
 
 
 def sources_of(clone: Path) -> str:
-    """The sum of the sources, by other means than the tool's."""
+    """Returns the checksum of the sources, computed by other means than the tool's."""
     listed = "git ls-files -z crates crates.txt HANDLES | LC_ALL=C sort -z | xargs -0 sha256sum | sha256sum"
     return ran(["sh", "-c", listed], clone).out.split()[0]
 
@@ -203,20 +205,21 @@ class Debian:
         return ran(self.words(command), self.top)
 
     def shows(self, command: str, says: str = "", status: int = 0) -> Ended:
-        """A command that must end with this status and print this."""
+        """Runs a command, and asserts that it ends with this status and prints this."""
         done = self.run(command)
         assert done.status == status and re.search(says, done.out + done.err, re.M), (command, done)
         return done
 
     def files(self) -> set[str]:
-        """All files but those of the package manager and of the book."""
+        """Returns all files except those of the package manager and of the book."""
         listed = ran(["find", ".", "-xdev"], self.top).out.splitlines()
         return {name for name in listed if not re.match(r"\./(var/(lib|log|cache)/|root/book)", name)}
 
 
 @pytest.fixture(scope="module")
 def tree() -> Path:
-    """A fresh Debian as a tar file. What isn't installed is a fault of the machine; that no mirror answers isn't."""
+    """A fresh Debian as a tar file. If debootstrap isn't installed, the test fails in CI; if the tree can't be made, such as
+    when no mirror replies, the test is skipped."""
     need("debootstrap")
     made = ran(["sh", ROOT / "tests" / "release" / "fresh_tree.sh"], ROOT)
     if made.status != 0:
@@ -262,7 +265,8 @@ def browser(tmp_path: Path) -> Iterator[Browser]:
 @pytest.mark.root
 @pytest.mark.browser
 def test_the_window_opens_in_a_browser(fresh: Debian, browser: Browser, tmp_path: Path) -> None:
-    """The browser runs beside the fresh Debian: the token goes from the address, a policy is found and has its reserve."""
+    """The browser runs outside the fresh Debian: the token disappears from the address, and a policy is found with its
+    reserve."""
     fresh.run("life run <first-minute.csv")
     with open(tmp_path / "address", "w", encoding="utf-8") as out:
         window = subprocess.Popen([str(word) for word in fresh.words("exec life-tools browse --port 0")], stdout=out)
@@ -297,7 +301,7 @@ def test_the_next_version_and_away_again(fresh: Debian, clone: Path, release: Re
     text = changelog.read_text(encoding="utf-8")
     changelog.write_text(text.replace("\n## ", f"\n## {NEXT} (2027-01-01)\n\n- What comes next.\n\n## ", 1), encoding="utf-8")
     commit(clone, "the next version", NEXT_YEAR)
-    # CI's counts over these sources are known now
+    # now CI's counts for these sources are known
     (clone / "out" / "gate").write_text(f"sources: {sources_of(clone)}\n12 passed, 0 failed\n")
     assert packed(clone).status == 0
     assert "12 passed, 0 failed" in (clone / "out" / "release" / f"life_{NEXT}.proved.txt").read_text().splitlines()
