@@ -1,4 +1,4 @@
-"""An office's folder and its commands: each is run and judged by its status."""
+"""The folder of an office and its commands; each command is run, and its status is checked."""
 from __future__ import annotations
 
 import os
@@ -15,7 +15,7 @@ def need(right: Any, message: str) -> None:
 
 
 class Office:
-    """The folder in which commands are called, and how many of their figures were compared."""
+    """The folder in which commands are called, and the number of figures that were compared."""
 
     def __init__(self, folder: str, tools: str, program: str) -> None:
         self.folder, self.tools, self.program = folder, tools, program
@@ -34,7 +34,7 @@ class Office:
         return ran.stdout
 
     def tool(self, *words: Any, where: str = "main", status: int = 0) -> str:
-        """What an entry of the tools prints."""
+        """Returns what a command of the tools prints."""
         told = list(map(str, words))
         return self.ran([sys.executable, self.tools, *told], "life-tools " + " ".join(told), where, status)
 
@@ -43,7 +43,7 @@ class Office:
         return self.ran([self.program, *told], "life " + " ".join(told), where, 0)
 
     def keep(self, text: str, *names: str) -> str:
-        """Writes a text to a file of the folder."""
+        """Writes a text to a file of the folder, and returns its path."""
         with open(self.path(*names), "w", encoding="utf-8") as file:
             file.write(text)
         return self.path(*names)
@@ -53,7 +53,7 @@ class Office:
             return file.read()
 
     def same(self, what: str, found: Any, wanted: Any) -> None:
-        """Compares, and says what differs."""
+        """Compares two results, and reports what differs."""
         self.compared += 1
         if found == wanted:
             return
@@ -64,7 +64,7 @@ class Office:
 
 
 def moved_lines(text: str) -> dict[str, list[int]]:
-    """The lines of a printed analysis of change: policies and both sums in cents."""
+    """Returns the lines of a printed analysis of change: the number of policies and both sums in cents."""
     found = {}
     for line in text.splitlines():
         fields = MOVED.match(line)

@@ -1,6 +1,6 @@
-"""The sheets of a year-end by SQLite, over what `export sqlite` wrote of a book: none of the tools' sums is used here.
+"""Computes the sheets of a year-end with SQLite, over what `export sqlite` wrote of a book; no sum of the tools is used here.
 
-Amounts are in cents, days are texts; a sheet is a dict of rows by their first cell.
+Amounts are in cents, days are texts, and a sheet is a dict of rows by their first cell.
 """
 from __future__ import annotations
 
@@ -10,7 +10,7 @@ from typing import Any, Iterable, NamedTuple
 
 GROUPS = ("whole", "endowment", "term", "limited", "paid up")
 GRACE_DAYS = 31
-# the amount of a policy in front of a command, and whether it was paid up then
+# the amount of a policy before a command, and whether it was paid up then
 BEFORE = """(select b.amount_cents from command b where b.policy = c.policy and b.position < c.position
              and b.kind in ('issue', 'alter', 'paidup') order by b.position desc limit 1)"""
 UP = "exists (select 1 from command b where b.policy = c.policy and b.position < c.position and b.kind = 'paidup')"
@@ -28,7 +28,7 @@ POSTINGS = {"decreased": "c.kind = 'alter'", "made paid up": "c.kind = 'paidup'"
 IN_FORCE = """
     select case when status = 'paidup' then 'paid up' else plan end as its, count(*), sum(amount_cents)
     from {policy} where status in ('inforce', 'paidup') group by its"""
-# the lines of an analysis of change, by the last posting that is no premium; a part settlement where nothing else was posted
+# the lines of an analysis of change, by the last posting that isn't a premium; a part settlement if nothing else was posted
 MOVED = {"claim": "claims", "settle": "settlements", "mature": "maturities", "lapse": "lapses", "reinstate": "reinstatements",
          "alter": "alterations", "paidup": "made paid up"}
 MOVEMENT = """
@@ -45,7 +45,7 @@ Rows = dict[str, list[Any]]
 
 
 class Year(NamedTuple):
-    """A year: its days and positions."""
+    """The first and last day of a year, and the positions on them."""
 
     on1: str
     p1: int
@@ -54,14 +54,14 @@ class Year(NamedTuple):
 
 
 def anniversary(day: str, years: int) -> str:
-    """So many years later; of 29 February the 28th, where there is none."""
+    """Returns the day this number of years later; for 29 February it is the 28th in a year without a 29th."""
     year, rest = int(day[:4]) + years, day[4:]
     is_leap = year % 4 == 0 and (year % 100 != 0 or year % 400 == 0)
     return f"{year:04}{'-02-28' if rest == '-02-29' and not is_leap else rest}"
 
 
 def due_up_to(issued: str, on: str) -> int:
-    """How many anniversaries, the day of issue among them, lie on a day or before it."""
+    """Returns how many anniversaries, including the day of issue, are on a day or before it."""
     years = int(on[:4]) - int(issued[:4])
     return max(0, years + (anniversary(issued, years) <= on))
 
@@ -71,14 +71,15 @@ def cents(text: str) -> int:
 
 
 def sheet_rows(path: str) -> list[list[str]]:
-    """The rows of a sheet behind its head, but for the one that says that no program is known to be proved."""
+    """Returns the rows of a sheet after its head, except the one which says that no program is known to be proved."""
     with open(path, newline="", encoding="utf-8") as file:
         _, *rows = csv.reader(file)
     return [row for row in rows if row[0] != "not the proved program"]
 
 
 def csv_rows(path: str) -> Rows:
-    """The rows of a sheet behind its head, by their first cell; amounts in cents, what is no number as text."""
+    """Returns the rows of a sheet after its head, by their first cell; amounts are in cents, and what isn't a number is a
+    text."""
     return {row[0]: [value_of(cell) for cell in row[1:]] for row in sheet_rows(path)}
 
 
@@ -90,7 +91,8 @@ def value_of(cell: str) -> Any:
 
 
 class Sums:
-    """A database with a book's front at the closing position, and beside it one at the opening; and valuations of both."""
+    """A database of a prefix of the book at the closing position, with another one at the opening position, and valuations of
+    both."""
 
     def __init__(self, opening: str, closing: str, other: str, year: Year, classes: Iterable[tuple[int, int, str]]) -> None:
         self.year = year
@@ -109,7 +111,7 @@ class Sums:
     # --- the exhibit ---
 
     def exhibit(self) -> Rows:
-        """Of each line number and amount of each group, then of all, and the postings."""
+        """Returns for each line the number and amount of each group, then of all, and the postings."""
         found: Rows = {}
         for line, policy in (("in force at the beginning", "opening.policy"), ("in force at the end", "main.policy")):
             found[line] = self.by_group(self.rows(IN_FORCE.format(policy=policy)), "")
@@ -127,7 +129,7 @@ class Sums:
         return int(count)
 
     def made_paid_up(self) -> list[Any]:
-        """They leave their plan at the new amount, and enter the paid up ones at it."""
+        """Policies made paid up leave their plan with the new amount, and enter the group of paid-up policies with it."""
         parts = self.rows("select i.plan, -count(*), -sum(c.amount_cents) from command c join command i on i.policy = c.policy "
                           "and i.kind = 'issue' where c.kind = 'paidup' and c.position > :p1 and c.position <= :p2 group by 1")
         entered = ("paid up", -sum(part[1] for part in parts), -sum(part[2] for part in parts))
@@ -142,7 +144,7 @@ class Sums:
     # --- claims ---
 
     def claims(self) -> Rows:
-        """Of claims, of maturities and of both the number and the amount, and the postings."""
+        """Returns the number and the amount of claims, of maturities and of both, and the postings."""
         owed = """
             select (select kind from command c where c.policy = p.policy and c.kind in ('claim', 'mature')) = 'mature',
                    count(*), sum(outstanding_cents) from {policy} p where outstanding_cents > 0 {more} group by 1"""
@@ -176,7 +178,8 @@ class Sums:
     # --- premiums ---
 
     def premiums(self) -> Rows:
-        """Of each line policies (or postings), premiums, gross; and of those past their grace the reserves' bounds."""
+        """Returns for each line policies (or postings), premiums and gross amounts; for those past their grace also the bounds
+        of reserves."""
         found: Rows = {}
         self.collected(found)
         for name, policy, on in (("at the beginning", "opening.policy", "on1"), ("at the end", "main.policy", "on2")):
@@ -198,7 +201,7 @@ class Sums:
         [found["collected by reinstatement"]] = map(list, self.rows(paid.format(count=premium, kind="reinstate", more="")))
 
     def uncollected(self, found: Rows, name: str, policy: str, on: str) -> None:
-        """What is due and unpaid, or paid before it is due, of policies in force."""
+        """Finds what is due and unpaid, or paid before it is due, for policies in force."""
         missed = "min(due_up_to(p.issued, :on), payments) - p.premiums_paid"
         due = "anniversary(p.issued, p.premiums_paid)"
         late = f"julianday(:on) - julianday({due})"
@@ -223,8 +226,8 @@ class Sums:
     # --- reserves ---
 
     def take_worths(self, measure: str) -> None:
-        """A table of each policy's bounds by a measure, or by the bases of classes: at the opening (1), the later book on the
-        opening day (2), and at the closing (3)."""
+        """Makes a table of each policy's bounds by a measure, or by the bases of classes: at the opening (1), for the closing
+        position on the opening day (2), and at the closing (3)."""
         self.base.execute("drop table if exists worth")
         self.base.execute("create temp table worth (at int, policy int, low int, high int, word text, basis text)")
         columns = "v.lower_cents, v.upper_cents"
@@ -244,7 +247,7 @@ class Sums:
         return list(self.rows("select sum(low), sum(high), sum(word is not null) from worth where at = :at", at=at)[0])
 
     def movement(self) -> Rows:
-        """Of each line the policies and both sums, by the worths that were taken."""
+        """Returns for each line the policies and both sums, by the worths that were taken."""
         lines = ("opening reserve", "new issues", *MOVED.values(), "time gone by", "change of basis", "closing reserve")
         found: Rows = {line: [0, 0, 0] for line in lines}
 
@@ -265,8 +268,8 @@ class Sums:
         return found
 
     def reserves(self, basis_rows: dict[str, list[tuple[str, str, int]]], method: str, paid_up: str) -> list[list[Any]]:
-        """Of each basis row and method the policies, the amount insured, the sums of the closing worths, and the excess of the
-        minimum over the terminal reserve; of those with a word the first two."""
+        """Returns for each basis row and method the policies, the amount insured, the sums of the closing worths, and the
+        excess of the minimum reserve over the terminal reserve. Policies with a word are left out."""
         self.base.execute("create temp table if not exists basis (name text, first text, next text, file text, points int)")
         self.base.execute("delete from basis")
         for name, rows in basis_rows.items():
@@ -285,7 +288,8 @@ class Sums:
             where p.status in ('inforce', 'paidup') group by 1, 2, 3, 4, 5""", method=method, paid_up=paid_up)]
 
     def report(self, key: str) -> Rows:
-        """Of each group the policies, those insured, the amount insured, the closing sums, and the rows with a word."""
+        """Returns for each group the policies, the insured ones, the amount insured, the closing sums, and the rows with a
+        word."""
         by = {"plan": "p.plan", "status": "p.status", "issue-year": "substr(p.issued, 1, 4)",
               "age-band": "printf('%03d-%03d', p.age / 10 * 10, p.age / 10 * 10 + 9)"}[key]
         insured = "p.status in ('inforce', 'paidup')"
@@ -295,14 +299,14 @@ class Sums:
             group by 1""")
         return {row[0]: list(row[1:]) for row in parts}
 
-    # --- the days' lists ---
+    # --- the lists of a day ---
 
     def due(self, within: int) -> list[tuple[Any, ...]]:
-        """What `due` lists on the closing day: premiums, grace, lapses, maturities, reinstatements, settlements."""
+        """Returns what `due` lists on the closing day: premiums, grace, lapses, maturities, reinstatements, settlements."""
         return sorted(self.rows(DUE, within=within, grace=GRACE_DAYS))
 
 
-# of policies in force: when the next premium is due, when its grace ends, and the last day of the list
+# for policies in force: when the next premium is due, when its grace ends, and the last day of the list
 DUE = """
     with day as (select :on2 as first, date(:on2, '+' || :within || ' days') as last),
     p as (select *, anniversary(issued, case when plan in ('term', 'endowment') then years else 131 - age end) as stop,

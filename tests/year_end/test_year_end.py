@@ -1,7 +1,7 @@
-"""A year-end as an administrator, an actuary and an auditor go through it, by the commands that the pages show.
+"""Tests a year-end as an administrator, an actuary and an auditor do it, with the commands that the pages show.
 
-The book is drawn and has twenty years; then it is divided into eight. Each sheet is compared with sums that SQLite makes
-over `export`. YEAR_END_POLICIES says of how many policies the book is: 2,000, or 20,000 for a whole year-end.
+The book is drawn and covers twenty years; then it is divided into eight books. Each sheet is compared with sums that SQLite
+computes over `export`. YEAR_END_POLICIES is the number of policies: 2,000 by default, or 20,000 for a whole year-end.
 """
 from __future__ import annotations
 
@@ -26,7 +26,7 @@ POLICIES = int(os.environ.get("YEAR_END_POLICIES", "2000"))
 
 
 def lay_book(folder: Path) -> int:
-    """The book in a folder of its own, with its bases; the greatest number of a policy."""
+    """Writes the book with its bases into a folder of its own, and returns the greatest number of a policy."""
     folder.mkdir()
     commands = lived(SEED, POLICIES, TIMES)
     (folder / "journal.life").write_bytes(file_of(commands))

@@ -1,4 +1,4 @@
-"""The walks of a year-end: what an administrator, an actuary and an auditor call, and what SQLite says of each sheet."""
+"""The steps of a year-end: what an administrator, an actuary and an auditor call, and what SQLite computes for each sheet."""
 from __future__ import annotations
 
 import csv
@@ -22,7 +22,7 @@ FRONT, RECORD = 17, 65
 
 
 class Walk:
-    """The office, its bases, and what was found on the way: positions, the sums by SQLite."""
+    """The office, its bases, and what was found so far: positions, and the sums by SQLite."""
 
     def __init__(self, office: Office, bases: dict[str, str], last: int) -> None:
         self.office, self.bases = office, bases
@@ -54,14 +54,14 @@ class Walk:
         office.keep(office.tool("seal", "--at", positions[1]), "seal")
 
     def lay_front(self, name: str, position: int) -> None:
-        """A copy of the book's front, as the page for auditors has it."""
+        """Writes a copy of a prefix of the book, as the page for auditors describes."""
         with open(self.office.path("main", "journal.life"), "rb") as file:
             data = file.read(FRONT + RECORD * position)
         with open(self.office.path(f"{name}.life"), "wb") as file:
             file.write(data + bytes(1))
 
     def export(self) -> None:
-        """Valuations by the program, and the databases with them."""
+        """Makes valuations with the program, and the databases with them."""
         office, year = self.office, self.year
         texts: dict[str, str] = {"basis": "", "other": ""}
         for name in texts:
@@ -84,12 +84,12 @@ class Walk:
         self.office.same("due", found, self.sums.due(WITHIN))
 
     def lines_to_send(self) -> None:
-        """The lapses and maturities of today: looked over, and run on a copy."""
+        """Checks the lines for today's lapses and maturities, and runs them on a copy."""
         office = self.office
         lines = office.tool("due", TODAY, "--script", "lapse,mature")
         script = office.keep(lines, "script.csv")
         count = lines.count("\n")
-        # of policies that nobody has looked at for years it is told that they are, and nothing else
+        # for policies that nobody has looked at for years `check` reports exactly this, and nothing else
         told = office.tool("check", script, "--today", TODAY, status=1).splitlines()
         kinds = {re.sub("[0-9]+", "N", line.partition(" posting")[0]) for line in told if line.startswith("  ")}
         need(kinds <= {"  the day is N days after the policy's newest"}, f"check tells {kinds}")
@@ -115,7 +115,7 @@ class Walk:
         with open(office.path(name), newline="", encoding="utf-8") as file:
             rows = list(csv.reader(file))[1:]
         for key in KEYS:
-            # by deficiency the last two bounds are the minimum's
+            # with --deficiency the last two bounds are those of the minimum
             found = {row[1]: [value_of(cell) for cell in (*row[2:5], *row[-3:])] for row in rows if row[0] == key}
             office.same(f"report by {key}, {measure}", found, self.sums.report(key))
 
@@ -143,7 +143,7 @@ class Walk:
         self.increase(read["increase"], parts)
 
     def reserves(self, measure: str, sheets: str, classes: list[str]) -> None:
-        """The sheet of reserves by basis row; interest stands there as 4.00%."""
+        """Compares the sheet of reserves by basis row; the interest on it is written as 4.00%."""
         rows = {"main": self.basis_rows("basis.csv"), **({"other": self.basis_rows("other.csv")} if classes else {})}
         method = "mean" if measure == "mean" else "terminal"
         wanted = self.sums.reserves(rows, f"CRVM {method}", f"paid up {method}")
@@ -159,8 +159,9 @@ class Walk:
         return [(day, file, int(points)) for day, file, points in fields]
 
     def increase(self, lines: dict[str, list[Any]], parts: str) -> None:
-        """The ends are the program's totals, and the lines lead from one to the other; each policy's parts make each line, but
-        for a half cent each, and lead from its own opening to its own closing."""
+        """The first and last lines are the program's totals, and the other lines lead from one to the other. Each policy's
+        parts add up to each line, with at most half a cent of difference for each policy, and lead from the policy's own
+        opening to its own closing."""
         office, names = self.office, list(lines)[1:-2]
         for line, at in (("reserve at the beginning", 1), ("reserve at the end", 3)):
             office.same(f"increase, {line}", lines[line][1:], self.sums.total(at)[:2])
@@ -182,7 +183,7 @@ class Walk:
         office.compared += len(names) + len(rows)
 
     def count_of(self, line: str, found: int, kinds: tuple[str, ...]) -> None:
-        """How often a line was posted to a policy with a value: all of them, unless a basis begins later."""
+        """Compares how often a line was posted to a policy with a value with all its postings, unless a basis begins later."""
         [[count]] = self.sums.rows(f"""select count(*) from command c join worth w on w.policy = c.policy and w.at = 3
                                        where c.kind in ({','.join('?' * len(kinds))}) and c.position > {self.year.p1}
                                        and c.position <= {self.year.p2}""".replace("?", f"'{kinds[0]}'"))
@@ -190,7 +191,8 @@ class Walk:
             self.office.same(f"increase, {line}: postings", found, count)
 
     def why(self) -> None:
-        """Some rows, worked out: the net premium of each year but the first is beta, as the increase and the premiums have it."""
+        """Works out some rows: the net premium of each year except the first is beta, as in the sheets of the increase and the
+        premiums."""
         office, year = self.office, self.year
         parts = {row["policy"]: row for row in csv.DictReader(io.StringIO(office.text("parts-terminal", "increase.csv")))}
         steady = self.sums.rows("""
@@ -209,7 +211,7 @@ class Walk:
             office.compared += 1
 
     def files(self) -> None:
-        """A page and a workbook of the statement say the same totals."""
+        """Checks that a page and a workbook of the statement can be made, and that the page has the same total."""
         office, year = self.office, self.year
         total = f"{self.sums_of_terminal():,.2f}"
         for form in ("html", "xlsx"):
@@ -229,7 +231,7 @@ class Walk:
         return ["--classes", self.office.path("classes.csv"), "--bases", self.office.path("bases.csv")]
 
     def classes(self) -> None:
-        """Half of the book by another basis, which lacks the first months: rows with a word."""
+        """Half of the book has another basis, which lacks the first months, so that some rows have a word."""
         office, words = self.office, self.class_words()
         self.sums.take_worths("class")
         rows = office.tool("value", ON2, "--at", self.year.p2, *words).splitlines()
@@ -268,7 +270,8 @@ class Walk:
             self.office.same(f"flags, {flag}", found, sorted(position for position, in wanted))
 
     def sample(self, by: str) -> None:
-        """Drawn once more by a walk along the units; its rows are right, and papers and letters are of them."""
+        """Draws the sample once more by stepping along the units; its rows are right, and papers and letters show exactly
+        these rows."""
         office, year = self.office, self.year
         words = ["audit", "sample", DRAWN, "--seed", SEED, "--on", ON2, "--at", year.p2, "--by", by]
         office.keep(office.tool(*words), f"sample-{by}")
@@ -285,7 +288,7 @@ class Walk:
         self.letters(office.tool("audit", "letters", f"../sample-{by}"), found)
 
     def papers(self, name: str, drawn: int) -> None:
-        """Each drawn policy has a row that holds its exact value."""
+        """Asserts that each drawn policy has a row that holds its exact value."""
         held = re.findall(r"^printed: .*: (?:the same|it holds the exact value.*)</pre>", self.office.text(name), re.MULTILINE)
         need(len(held) == drawn, f"{name}: {len(held)} rows are worked out, and {drawn} were drawn")
 
@@ -299,7 +302,8 @@ class Walk:
         self.office.same("letters", found, [[str(cell) for cell in rows[number]] for number in drawn])
 
     def changed_seal(self) -> None:
-        """A byte of the front that is changed, and one behind it, which the seal isn't of."""
+        """Changes a byte of the sealed prefix, which `seal --check` must find, and checks the restored journal, which is as it
+        was sealed."""
         office = self.office
         os.makedirs(office.path("changed"))
         for name in ("basis.csv", "g.xml"):
@@ -319,7 +323,7 @@ class Walk:
     # --- many books ---
 
     def many(self, books: int) -> None:
-        """The book is divided; the sheets of all books together are those of the undivided one, byte for byte."""
+        """Divides the book; the sheets of all books together must be those of the undivided one, byte for byte."""
         office = self.office
         self.divide(books)
         office.tool("books", "headroom", "books.csv", "--today", TODAY, where="")
@@ -336,7 +340,7 @@ class Walk:
         self.lists_of_all()
 
     def listed(self, *words: Any, status: int = 0) -> str:
-        """What is printed of the list of books."""
+        """Returns what is printed for the list of books."""
         return self.office.tool("books", "books.csv", *words, where="", status=status)
 
     def divide(self, books: int) -> None:
@@ -351,7 +355,7 @@ class Walk:
             self.office.keep(self.bases["other.csv"], folder, "other.csv")
 
     def upgrades(self, on: str) -> int:
-        """How many times more than in the old book the upgrade stands in front of a day's positions."""
+        """Returns how many more upgrades come before a day's positions than in the undivided book."""
         books = len(self.office.text("books.csv").splitlines())
         return books - 1 if on >= "2010-06-01" else 0
 
@@ -375,7 +379,7 @@ class Walk:
                     office.same(f"{sheet} of all, {measure}", one, other)
 
     def lists_of_all(self) -> None:
-        """What is due, flags, a sample, its papers and letters."""
+        """Compares what is due, the flags, and a sample with its papers and letters."""
         office = self.office
         text = self.listed("due", ON2, "--within", WITHIN, "--at", "p2.csv")
         rows = list(csv.reader(io.StringIO(text)))[1:]
@@ -397,12 +401,13 @@ class Walk:
 
 
 def walked(sizes: list[tuple[int, int]]) -> list[int]:
-    """The policies in which a point lies: at equal intervals from a start, the SHA-256 of the seed modulo the total."""
+    """Returns the policies in which a point lies; the points are at equal intervals from a start, which is the SHA-256 of the
+    seed modulo the total."""
     total = sum(size for _, size in sizes)
     point = int.from_bytes(hashlib.sha256(str(SEED).encode()).digest(), "big") % total
     found, ahead = [], 0
     for number, size in sizes:
-        # in parts of a cent, so that the interval is whole
+        # in fractions of a cent, so that the interval is a whole number
         ahead += size * DRAWN
         if point < ahead:
             found.append(number)
