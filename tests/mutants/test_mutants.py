@@ -1,7 +1,7 @@
-"""Changes planted on purpose, each of which a named test must notice: the measure of the suite.
+"""Changes that are planted on purpose, each of which a named test must notice: they measure the suite.
 
-The tables beside this file have an entry a change: `file`, `old` (text that stands in it once), `new`, and `test`, what
-pytest is given. Entries with `ci = true` are tried by `pytest -m mutants_ci`, all of them by `pytest -m mutants`.
+The tables in this folder have one entry for each change: `file`, `old` (a text that occurs in the file exactly once), `new`, and
+`test`, the arguments for pytest. `pytest -m mutants_ci` tries the entries with `ci = true`, and `pytest -m mutants` tries all.
 """
 from __future__ import annotations
 
@@ -19,7 +19,7 @@ import pytest
 from tests.support.program import ROOT, Program
 
 TABLES = sorted(Path(__file__).parent.glob("*.toml"))
-# what a change is tried in: all but the proved program's sources
+# the files in which a change is tried: everything except the proved program's sources
 COPIED = ("tests", "tools", "examples", "docs", ".ci", "bench", "life", "pyproject.toml", ".flake8", "crates.txt", "README.md",
           "CHANGELOG.md", "CONTRIBUTING.md", "SECURITY.md")
 FAILED = 1
@@ -33,7 +33,7 @@ def entries() -> Iterator[Any]:
 
 
 def changed_copy(entry: dict[str, str], to: Path) -> None:
-    """The sources of the proved program only where they, or what is known of them, are changed."""
+    """Copies the repository, with the proved program's sources only if they, or what is known about them, are changed."""
     needs_sources = entry["file"].startswith(("crates", "HANDLES")) or "tests/repository" in entry["test"]
     for name in filter(lambda name: (ROOT / name).exists(), (*COPIED, *(("crates", "HANDLES") if needs_sources else ()))):
         if (ROOT / name).is_dir():
@@ -46,7 +46,7 @@ def changed_copy(entry: dict[str, str], to: Path) -> None:
 
 @pytest.mark.parametrize("table", TABLES, ids=[table.stem for table in TABLES])
 def test_each_change_can_be_made(table: Path) -> None:
-    """The text to be changed stands in its file once, and the test is there."""
+    """The text to be changed occurs in its file exactly once, and the test exists."""
     for entry in tomllib.loads(table.read_text(encoding="utf-8"))["mutant"]:
         assert (ROOT / entry["file"]).read_text(encoding="utf-8").count(entry["old"]) == 1, entry
         assert entry["old"] != entry["new"] and (ROOT / shlex.split(entry["test"])[0].partition("::")[0]).exists(), entry
