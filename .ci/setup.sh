@@ -1,12 +1,12 @@
 #!/bin/sh
-# What the suite uses beside the kit and Debian's python3: lists what is missing, asks, and installs it by apt-get.
+# Installs what the suite needs besides the kit and Debian's python3: lists what is missing, asks, and calls apt-get.
 #
 # usage: sh .ci/setup.sh           asks before it installs
 #        sh .ci/setup.sh --yes     installs without asking, as .ci/run does where CI is set or there is no terminal
 #        sh .ci/setup.sh --list    prints what is missing, and installs nothing
 #
-# The status is 0 where nothing is missing in the end, 1 where something is, and 2 where the arguments are wrong. A test
-# that needs what is missing is skipped, and fails where CI is set.
+# The status is 0 if nothing is missing in the end, 1 if something is, and 2 if the arguments are wrong. A test that needs
+# a missing package is skipped; if CI is set, it fails.
 packages="btrfs-progs chromium chromium-driver codespell debootstrap e2fsprogs flake8 fonts-dejavu-extra gcc graphviz
 hledger hyperfine ledger libc6-dev libjs-katex libreoffice-calc lintian mkdocs mkdocs-material mypy poppler-utils
 python3-distributed python3-flask python3-hypothesis python3-matplotlib python3-numpy python3-openpyxl python3-pandas
@@ -18,7 +18,7 @@ missing() {
     done
 }
 
-# the missing packages, in one line, or the end with this status
+# sets `wanted` to the missing packages, in one line; ends with status 0 if there are none
 stop_if_none() {
     wanted=$(missing | tr '\n' ' ')
     [ -n "$wanted" ] || exit 0
@@ -30,7 +30,7 @@ asks() {
     case $answer in y | Y | yes) ;; *) return 1 ;; esac
 }
 
-# another apt-get may be at work, and a network may hang
+# another apt-get may be running, and the network may hang: both waits are limited
 apt() {
     seconds=$1
     shift
@@ -44,7 +44,7 @@ install_all() {
     fi
     export DEBIAN_FRONTEND=noninteractive
     apt 120 update
-    # one that isn't known would keep all others away
+    # an unknown package would prevent the installation of all others, so each is then installed alone
     # shellcheck disable=SC2086
     apt 900 install $wanted || for package in $wanted; do apt 300 install "$package"; done
 }

@@ -1,13 +1,13 @@
-"""Runs the suite and counts: the tests side by side; then, one after the other, those that go by the clock; and where it is
-asked for, some of the planted changes that the suite has to notice.
+"""Runs the suite and counts: first the tests that may run side by side; then, one after another, those that depend on the clock;
+and, if asked for, some of the planted changes that the suite must notice.
 
 usage: /usr/bin/python3 .ci/suite.py JOBS COUNTS [--mutants] [PYTEST'S ARGUMENTS..]
 
-JOBS tests run at once. COUNTS is a file that takes a line with the numbers of tests that passed, failed and were skipped. The
-status is 1 where a test failed.
+JOBS tests run at the same time. COUNTS is a file into which one line is written: the numbers of tests that passed, failed and
+were skipped. The status is 1 if a test failed.
 
-A test can fail because other work delays it, such as one that waits for a browser. So each test that fails is run once more, by
-itself. The second run counts, and a line reports it.
+A test can fail because other work delays it, such as a test that waits for a browser. So each test that fails is run once more,
+by itself. The second run counts, and a line reports it.
 """
 from __future__ import annotations
 
@@ -20,13 +20,13 @@ from pathlib import Path
 from typing import Sequence
 
 ROOT = Path(__file__).resolve().parents[1]
-# pytest's status where no test is of the part
+# pytest's status if no test belongs to the part
 NO_TEST = 5
 
 
 @dataclass
 class Counts:
-    """The tests that ended so, by their names."""
+    """The names of the tests that passed, failed and were skipped."""
 
     passed: list[str] = field(default_factory=list)
     failed: list[str] = field(default_factory=list)
@@ -39,7 +39,7 @@ class Counts:
 
 
 def counted(report: Path) -> Counts:
-    """What pytest's report in the form of JUnit says; a test may fail, and fail at its end again."""
+    """Reads pytest's report in the form of JUnit; a test may appear twice, once for its body and once for its end."""
     counts = Counts()
     for case in xml.etree.ElementTree.parse(report).iter("testcase"):
         name = f"{case.get('classname')}::{case.get('name')}"
@@ -52,7 +52,7 @@ def counted(report: Path) -> Counts:
 
 
 def tried(part: str, jobs: int, folder: Path, words: Sequence[str]) -> Counts:
-    """The tests of a part, as a marker's expression has it. A run that ends without a report is a failure."""
+    """Runs the tests of a part, which is given as a marker expression. A run that ends without a report counts as a failure."""
     report = folder / "report.xml"
     report.unlink(missing_ok=True)
     command = [sys.executable, "-m", "pytest", "-c", "pyproject.toml", "-q", "-n", str(jobs), "-m", part, f"--junitxml={report}",
@@ -67,7 +67,7 @@ def tried(part: str, jobs: int, folder: Path, words: Sequence[str]) -> Counts:
 
 
 def tried_twice(part: str, jobs: int, folder: Path, words: Sequence[str]) -> Counts:
-    """As `tried`, and what failed is run once more, one after the other."""
+    """Runs the tests as `tried` does, and runs those that failed once more, one after another."""
     counts = tried(part, jobs, folder, words)
     if counts.failed:
         again = tried(part, 0, folder, ["--last-failed", "--last-failed-no-failures", "none", *words])
