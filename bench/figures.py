@@ -1,4 +1,4 @@
-"""Takes the rows of docs/development/figures.md; see figures.sh."""
+"""Measures the rows of docs/development/figures.md; see figures.sh."""
 from __future__ import annotations
 
 import os

@@ -1,4 +1,4 @@
-"""Figures of a transcript's lines: when they come, and what many of them take."""
+"""Figures of a transcript's lines: when they arrive, and what many of them cost."""
 from __future__ import annotations
 
 import os
@@ -17,7 +17,8 @@ ACCEPTED = re.compile(rb",accepted,(\d+)$")
 
 
 class Arrivals:
-    """One run whose output and journal are looked at again and again: by when a record stood, and by when its line was read."""
+    """One run whose output and journal are looked at again and again: when each record was in the file, and when its line was
+    read."""
 
     def __init__(self, setting: timing.Setting, clerks: int) -> None:
         self.records: list[Any] = []
@@ -53,7 +54,8 @@ class Arrivals:
                     self.lines[int(found[1])] = now
 
     def behind(self) -> Any:
-        """Milliseconds from each record's standing in the file, where its gate has yet to be synced, to its line's coming."""
+        """Returns the milliseconds from the moment a record is in the file, where its commit byte is yet to be synced, to the
+        arrival of its line."""
         return [1000 * (when - self.records[position - 1]) for position, when in self.lines.items()]
 
 
@@ -70,7 +72,7 @@ def lines(setting: timing.Setting) -> Iterator[timing.Row]:
 
 
 def short_issues(clerks: int) -> list[str]:
-    """So many as a script of 16 MiB holds."""
+    """Returns as many issues as a script of 16 MiB holds."""
     return [f"{1 + n % clerks},issue,{n + 1},2020-01-01,endowment,0,3,1000.00,400.00" for n in range(MANY)]
 
 

@@ -1,4 +1,4 @@
-"""Figures of what opens a journal: runs of an empty script, `state`, checkpoints."""
+"""Figures of the commands that open a journal: runs of an empty script, `state`, checkpoints."""
 from __future__ import annotations
 
 import hashlib
@@ -36,7 +36,7 @@ def opening(setting: timing.Setting) -> Iterator[timing.Row]:
 
 
 def openings(setting: timing.Setting) -> Iterator[timing.Row]:
-    """Numbers in no order, and policies with the premiums of three years."""
+    """The first book has policy numbers in no order; the second one has policies with the premiums of three years."""
     count = 4 * MILLION
     with Folder(setting.memory) as folder:
         plain = timing.build_plain("plain_opening", folder.path)
@@ -53,7 +53,7 @@ def openings(setting: timing.Setting) -> Iterator[timing.Row]:
 
 
 def paid_policies(policies: int) -> Iterator[bytes]:
-    """Issues, and then the premiums of three years."""
+    """Yields issues, and then the premiums of three years."""
     for number in range(1, policies + 1):
         yield workload.record(workload.ISSUE, number, 18262, (3, 30, 20), 100000 + number, 40000)
     for day in (18262, 18262 + 366, 18262 + 366 + 365):
@@ -62,7 +62,7 @@ def paid_policies(policies: int) -> Iterator[bytes]:
 
 
 def take_checkpoints(setting: timing.Setting, folder: timing.Folder, ages: tuple[int, ...]) -> timing.Run:
-    """Checkpoints that are so many commands old, and what it took to make that of all."""
+    """Makes checkpoints that are this many commands old, and returns the run that made the one of all commands."""
     records = list(paid_policies(MILLION))
     runs: dict[int, timing.Run] = {}
     for age in ages:
@@ -75,7 +75,7 @@ def take_checkpoints(setting: timing.Setting, folder: timing.Folder, ages: tuple
 
 def state_by(setting: timing.Setting, folder: timing.Folder, age: int | None,
              texts: set[bytes]) -> timing.Run:
-    """A run of `state` by such a checkpoint, or by none; its text is kept to be compared."""
+    """Runs `state` with such a checkpoint, or with none; a checksum of its output is added to `texts` for comparison."""
     used, written = folder.at("checkpoint.life"), folder.at("written")
     if os.path.exists(used):
         os.remove(used)

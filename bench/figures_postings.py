@@ -1,4 +1,4 @@
-"""Figures of postings on a real file, and of valuations beside them."""
+"""Figures of postings on a real file, and of valuations that run at the same time."""
 from __future__ import annotations
 
 import os
@@ -20,7 +20,7 @@ def fill(folder: timing.Folder, book: Any) -> None:
 
 
 def rate(setting: timing.Setting, clerks: int, valuers: int = 0) -> Any:
-    """Postings a second of so many clerks, beside others who value a book again and again."""
+    """Returns the postings per second of this number of clerks, while others value a book again and again."""
     with Folder(setting.disk) as folder:
         fill(folder, BOOK if valuers else 0)
         lines = workload.issue_lines(list(range(1, clerks + 1)), POSTINGS)
@@ -55,7 +55,7 @@ def postings(setting: timing.Setting) -> Iterator[timing.Row]:
 
 
 def valuation(setting: timing.Setting, clerks: int) -> Any:
-    """Milliseconds of a valuation between two postings of its clerk."""
+    """Returns the milliseconds of a valuation, measured between two postings of its clerk."""
     with Folder(setting.disk) as folder:
         fill(folder, BOOK)
         lines = timing.marked(1, workload.valuation_lines(1, 1))
@@ -74,7 +74,7 @@ def beside(setting: timing.Setting) -> Iterator[timing.Row]:
 
 
 def counted(setting: timing.Setting, folder: timing.Folder, lines: list[str]) -> Any:
-    """How often a run of these lines writes, syncs and reads by place."""
+    """Returns how many positioned writes, syncs and positioned reads a run of these lines makes."""
     names, told = ["pwrite64", "fsync", "pread64"], folder.at("calls")
     workload.write_lines(folder.at("script.csv"), lines)
     words = ["strace", "-f", "-c", "-o", told, "-e", "trace=" + ",".join(names), setting.program, "run"]

@@ -1,4 +1,4 @@
-"""Figures of what reads a script or a table."""
+"""Figures of the commands that read a script or a table."""
 from __future__ import annotations
 
 import os
@@ -14,7 +14,7 @@ LONGEST = 16 * 1024 * 1024
 
 
 def script_lines() -> Iterator[Any]:
-    """Lines of eight kinds, some of them quoted."""
+    """Yields lines of eight kinds, some of them quoted."""
     number = 0
     while True:
         number += 1
@@ -31,7 +31,7 @@ def script_lines() -> Iterator[Any]:
 
 
 def longest_script(bad: str) -> list[str]:
-    """All lines that fit, and one at the end that is no line, so that nothing is posted."""
+    """Returns as many lines as fit, and at the end one that isn't a line of a script, so that nothing is posted."""
     size = len(bad) + 1
     lines: list[str] = []
     for line in script_lines():

@@ -1,4 +1,4 @@
-"""Figures of the readers of basis and table files over inputs of up to 4 MiB, beside Python's parser of XML, expat."""
+"""Figures of the readers of basis and table files, for inputs of up to 4 MiB, compared with expat, Python's XML parser."""
 from __future__ import annotations
 
 import os
@@ -40,13 +40,13 @@ def filled(filling: str) -> Any:
 
 
 def basis(first_day: Any) -> Any:
-    """A thousand rows, each on a day of its own."""
+    """Returns a basis of a thousand rows, each with another day."""
     days = ["%d-%02d-01" % (first_day + i // 12, 1 + i % 12) for i in range(1000)]
     return "".join("%s,%s,%d\n" % (day, "table-" + "x" * 40 + ".xml", 300 + i % 7) for i, day in enumerate(days))
 
 
 def readings(program: str, folder: timing.Folder, name: str, times: Any) -> Any:
-    """Seconds of the processor of so many readings of a file and a start, the least of five."""
+    """Returns the processor seconds of this many readings of a file and one start: the least of five measurements."""
     def once() -> Any:
         before = resource.getrusage(resource.RUSAGE_CHILDREN).ru_utime
         subprocess.run([program, "tables", str(times), name], check=True, capture_output=True, cwd=folder.path,
@@ -56,7 +56,7 @@ def readings(program: str, folder: timing.Folder, name: str, times: Any) -> Any:
 
 
 def of_one(program: str, folder: timing.Folder, name: str) -> Any:
-    """Seconds of one reading, from so many that a start is little beside them."""
+    """Returns the processor seconds of one reading, computed from so many readings that the start hardly counts."""
     more = 4
     while readings(program, folder, name, 1 + more) < 0.4:
         more *= 2

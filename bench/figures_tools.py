@@ -1,4 +1,4 @@
-"""Figures of the tools over large books, and of the program that they stand beside."""
+"""Figures of the tools with large books, and of the program's commands that they are compared with."""
 from __future__ import annotations
 
 import functools
@@ -30,7 +30,7 @@ def due(setting: timing.Setting) -> Iterator[timing.Row]:
 
 
 def rest(setting: timing.Setting) -> Iterator[timing.Row]:
-    """The rest of a run of eight lanes that was killed half-way: the journal has the first half of the rows."""
+    """Measures the rest of a run of eight lanes that was killed half-way: the journal has the first half of the rows."""
     rows = short_issues(8)
     with Folder(setting.memory) as folder:
         workload.write_lines(folder.at("script.csv"), rows)
@@ -41,7 +41,7 @@ def rest(setting: timing.Setting) -> Iterator[timing.Row]:
 
 
 def export(setting: timing.Setting) -> Iterator[timing.Row]:
-    """A journal of as many commands, with a valuation of its policies."""
+    """Measures the export of a journal of a million commands, with a valuation of its policies."""
     with Folder(setting.memory) as folder:
         workload.write_journal(folder.journal, list(paid_policies(MILLION // 4)))
         timing.timed([setting.program, "value", "2023-01-01"], folder.path, written=folder.at("value.csv"))
@@ -61,14 +61,15 @@ def exported(folder: timing.Folder, form: Any) -> Any:
     return tool(folder, "export", *words)
 
 
-# of each tool over a full book what the program is asked for beside it
+# for each tool over a full book: the commands of the program with which its time is compared
 BESIDE = {"check": ("state",), "position-on": ("state",), "why": ("value", "state"), "report": ("value", "state"),
           "due": ("state",),
           "read --verify": ("state",), "read-checkpoint": ("state",), "export csv": ("value",)}
 
 
 def full_book(setting: timing.Setting) -> Iterator[Any]:
-    """Issues, and premiums of three years, with room for one command; each round has the program's words in its turn."""
+    """Measures tools over a book of issues and premiums of three years with one command left; each round runs the program's
+    commands in turn with the tools."""
     with Folder(setting.memory) as folder:
         workload.write_journal(folder.journal, list(paid_policies(MILLION))[:-1])
         timing.timed([setting.program, "checkpoint"], folder.path)

@@ -19,7 +19,7 @@ ON, BEFORE_ALL = "2020-12-31", "1999-12-31"
 
 
 class Filled(Folder):
-    """A folder whose journal was so long when it was filled."""
+    """A folder that remembers the length of its journal after it was filled."""
 
     whole = 0
 
@@ -28,7 +28,7 @@ class Filled(Folder):
 
 
 def take_back(folder: Filled) -> None:
-    """Takes the marks out of the journal."""
+    """Removes the two marks from the journal."""
     with open(folder.journal, "r+b") as file:
         file.truncate(folder.whole)
         file.seek(folder.whole - 1)
@@ -36,7 +36,7 @@ def take_back(folder: Filled) -> None:
 
 
 def in_run(setting: timing.Setting, folder: Filled, workers: int, day: str = ON) -> float:
-    """Seconds of a valuation between two postings of its clerk."""
+    """Returns the seconds of a valuation, measured between two postings of its clerk."""
     lines = timing.marked(1, workload.valuation_lines(1, 1, workers, day))
     seconds = Watched(setting.program, folder, lines).between_marks()
     take_back(folder)
@@ -51,7 +51,7 @@ def filled(setting: timing.Setting, count: int) -> Filled:
 
 
 def plain_value(folder: timing.Folder, plain: str, workers: int) -> float:
-    """Seconds of the plain program's valuation alone, as it tells them."""
+    """Returns the seconds of the plain program's valuation alone, as that program prints them."""
     with open(folder.journal, "rb") as journal:
         run = subprocess.run([plain, "g.xml", "400", str(workers)], stdin=journal, stdout=subprocess.DEVNULL,
                              stderr=subprocess.PIPE, cwd=folder.path, check=True, preexec_fn=timing.below_watcher)
@@ -83,7 +83,7 @@ def workers(setting: timing.Setting) -> Iterator[timing.Row]:
 
 
 def small(setting: timing.Setting) -> Iterator[timing.Row]:
-    """Books so small that threads are most of their valuation."""
+    """Books so small that starting threads takes most of their valuation."""
     for count in (1, 300):
         with filled(setting, count) as folder:
             found = timing.in_turn(4 * setting.rounds, {
@@ -110,7 +110,7 @@ def measures(setting: timing.Setting) -> Iterator[timing.Row]:
 
 
 def need_same_text(setting: timing.Setting, folder: timing.Folder, *words: Any) -> None:
-    """However many workers there are, the text is the same."""
+    """Checks that the text is the same for each number of workers."""
     texts = set()
     for number in (1, 4):
         written = folder.at("written")
@@ -142,7 +142,7 @@ def axis(rates: Any) -> Any:
 
 
 def write_tables(folder: timing.Folder) -> None:
-    """A select and ultimate table of 100 issue ages and 25 durations, and its ultimate part alone."""
+    """Writes a select and ultimate table of 100 issue ages and 25 durations, and one with only its ultimate part."""
     ultimate = axis((age, rate(age)) for age in range(121))
     ages = "".join('<Axis t="%d">%s</Axis>\n' % (age, axis((d + 1, rate(age + d, 50 + 2 * d)) for d in range(25)))
                    for age in range(100))

@@ -1,4 +1,5 @@
-# A cluster of Dask on the loopback, of a scheduler and two workers of a thread each. Read by checks.
+# Functions for a cluster of Dask on the loopback address, with a scheduler and two workers of one thread each. Scripts read
+# this file with `.`.
 dask=/usr/bin/python3
 
 begin_cluster() {
@@ -12,7 +13,7 @@ begin_cluster() {
     has_workers 2
 }
 
-# until the scheduler has so many workers
+# waits until the scheduler has this number of workers
 has_workers() {
     "$dask" "$root/bench/workers.py" "$address" "$1" >workers.log 2>&1 ||
         complain "there are no $1 workers: $(tail -n 1 workers.log) $(tail -n 3 worker?.log)"
@@ -23,7 +24,7 @@ begin_worker() {
     eval "worker$1=$!"
 }
 
-# until a command holds, for a minute at most
+# waits until a command succeeds, for at most a minute
 wait_for() {
     tried=0
     until eval "$1"; do

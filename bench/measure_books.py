@@ -1,4 +1,4 @@
-"""What the times of single books and of many say; see measure_books.sh, in whose folder they lie.
+"""Evaluates the times of single books and of many; see measure_books.sh, in whose folder they lie.
 """
 from __future__ import annotations
 

@@ -1,6 +1,7 @@
 #!/bin/sh
-# What `life-tools books` takes beside the runs of the program that it makes: by four processes, beside the longest share
-# of the single runs over four; and on a cluster of two workers on the loopback, beside two processes. Medians of three.
+# Compares the time of `life-tools books` with that of the program's runs that it makes: by four processes, compared with the
+# longest share if the single runs are divided among four; and on a cluster of two workers on the loopback address, compared
+# with two processes. The figures are medians of three.
 # usage: sh bench/measure_books.sh [BOOKS POLICIES], else 8 books of 1,000,000 policies
 set -- "${1:-8}" "${2:-1000000}"
 root=$(cd "$(dirname "$0")/.." && pwd) || exit 2
@@ -13,7 +14,7 @@ complain() { echo "$check: $1" >&2; }
 . "$root/bench/loopback.sh"
 cd "$work" && python3 "$root/examples/many_books.py" . "$1" "$2" || exit 2
 
-# the seconds that words take, appended to a file; what was written before is on the disk by then
+# appends the nanoseconds that a command takes to a file; what was written before is synced first
 seconds() {
     into=$1
     shift
@@ -31,7 +32,7 @@ alone() {
     cd "$1" && "$LIFE_PROGRAM" value 2024-12-31 </dev/null
 }
 
-# the same runs without the tool
+# makes the same runs without the tool
 four_at_a_time() {
     printf '%s\n' book*/ | xargs -P 4 -I{} sh -c 'cd "$1" && exec "$LIFE_PROGRAM" value 2024-12-31 </dev/null >out' sh {}
 }

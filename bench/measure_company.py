@@ -1,19 +1,19 @@
 #!/usr/bin/env python3
-"""A month-end of a large company: a list of full books on this machine is valued and reported, one is divided, and the figures
-are carried on to so many policies.
+"""Measures a month-end of a large company: a list of full books on this machine is valued and reported, one book is divided, and
+the figures are extrapolated to a number of policies.
 
 usage: LIFE_PROGRAM=PROGRAM python3 bench/measure_company.py [--books 40] [--policies 250000] [--commands 16]
        [--divided 1000000] [--company 40000000] [--minutes 20] [--folder FOLDER]
 
-A book has whole life policies, each with its issue and premiums on its anniversaries, and so 65 bytes for each command. Forty
-books of 250,000 policies with 16 commands take 10.4 GB. A month-end is taken of as many books first as there are processors;
-where so many more wouldn't be done in the minutes, or find no room on the disk, the largest number that does is taken, and it
-says so. From there all is carried on by plain proportion. One book of the list has a basis of another name, and one is held by
-somebody else while the list is valued once more: its line and the status are looked at. First a smaller book is divided, of so
-many commands (0: none), and at last one of the list.
+A book has whole life policies, each with its issue and premiums on its anniversaries; each command takes 65 bytes, so forty
+books of 250,000 policies with 16 commands take 10.4 GB. First a month-end is made of as many books as there are processors. If
+--books books wouldn't be done within --minutes, or wouldn't fit on the disk, the largest number of books that would is measured,
+and this is printed. The figures are then extrapolated in proportion to the number of books. One book of the list has a basis of
+another name, and one is in use by another process while the list is valued once more: its line and the status are checked. At
+the beginning a smaller book of --divided commands is divided (0: none), and at the end one book of the list.
 
-Beside each time stand the processor seconds, and the time of a plain loop on all processors, taken before and after: where others
-use the machine, the loop is slower by as much.
+Each time is printed with the processor seconds, and with the time of a plain loop on all processors, measured before and after:
+if others use the machine, the loop is slower by as much.
 """
 from __future__ import annotations
 
@@ -42,11 +42,11 @@ from life_tools.journal.file import EMPTY, FIRST_GATE  # noqa: E402
 ON = "2024-12-31"
 PREMIUM_CENTS, AMOUNT_CENTS = 40000, 10_000_000
 FIRST_ISSUE, DAYS_OF_ISSUE = 9000, 3650
-# of which try_held takes the third
+# try_held uses the third book
 LEAST_BOOKS = 3
-# what a row takes that is kept, and what stays free of the disk
+# the bytes of a row that is kept, and the bytes of the disk that stay free
 ROW_BYTES, DISK_LEFT = 64, 4 * 10**9
-# of the minutes that are left, beside the division
+# the share of the remaining minutes that is used, besides the division
 SHARE = 0.8
 TOOL = [sys.executable, os.path.join(ROOT, "tools", "life-tools"), "books"]
 PROCESSORS = len(os.sched_getaffinity(0))
@@ -54,7 +54,7 @@ STEPS = 3 * 10**6
 
 
 class Took(NamedTuple):
-    """Seconds by the clock and of the processors; and those by the clock of the plain loop around it."""
+    """Seconds by the clock and of the processors, and the seconds by the clock of the plain loop before and after."""
 
     clock: float
     processor: float
@@ -75,9 +75,9 @@ def count_up(steps: int) -> None:
 
 
 def loop_seconds() -> float:
-    """How long the plain loop takes where each processor has one."""
+    """Returns how long the plain loop takes if each processor runs one."""
     with ProcessPoolExecutor(PROCESSORS) as pool:
-        # which begins the processes
+        # this starts the processes
         list(pool.map(count_up, [1] * PROCESSORS))
         begun = time.monotonic()
         list(pool.map(count_up, [STEPS] * PROCESSORS))
@@ -85,14 +85,14 @@ def loop_seconds() -> float:
 
 
 def loop_alone() -> float:
-    """The processor seconds of one such loop, which is what it takes where nobody else wants the machine."""
+    """Returns the processor seconds of one such loop, which is its time on an otherwise idle machine."""
     begun = time.process_time()
     count_up(STEPS)
     return time.process_time() - begun
 
 
 def journal(place: int, policies: int, commands: int) -> bytes:
-    """Of each policy the issue, and then a premium on each anniversary, all policies' of a year behind one another."""
+    """Returns a journal with the issue of each policy, and then a premium on each anniversary, sorted by policy year."""
     draw = np.random.default_rng(place)
     issued = FIRST_ISSUE + draw.integers(0, DAYS_OF_ISSUE, policies)
     ages, numbers = draw.integers(20, 60, policies), np.arange(policies) + place * policies + 1
@@ -108,7 +108,7 @@ def journal(place: int, policies: int, commands: int) -> bytes:
 
 
 def write_book(folder: str, place: int, policies: int, commands: int) -> str:
-    """A book in a folder of its own; its row of the list."""
+    """Writes a book into a folder of its own, and returns its row of the list."""
     name, basis = f"book{place + 1}", "other.csv" if place == 1 else "basis.csv"
     os.mkdir(os.path.join(folder, name))
     with open(os.path.join(folder, name, "journal.life"), "wb") as book:
@@ -120,7 +120,7 @@ def write_book(folder: str, place: int, policies: int, commands: int) -> str:
 
 
 def write_books(folder: str, first: int, last: int, asked: argparse.Namespace) -> None:
-    """The books from one place to another, in the list behind those that are there."""
+    """Writes the books from one place to another, and adds them to the list after those that are there."""
     with open(os.path.join(folder, "books.csv"), "a", encoding="ascii") as file:
         for place in range(first, last):
             file.write(write_book(folder, place, asked.policies, asked.commands))
@@ -128,13 +128,13 @@ def write_books(folder: str, first: int, last: int, asked: argparse.Namespace) -
 
 
 def processor_seconds() -> float:
-    """Those of all processes that were begun from here and have ended."""
+    """Returns the processor seconds of all processes that were started here and have ended."""
     used = resource.getrusage(resource.RUSAGE_CHILDREN)
     return used.ru_utime + used.ru_stime
 
 
 def timed(folder: str, *words: str, status: int = 0) -> tuple[Took, str]:
-    """What words take, and what was printed; they have to end with this status."""
+    """Runs `books` with these arguments, and returns what it took and what it printed; it must end with this status."""
     before = loop_seconds()
     begun, used = time.monotonic(), processor_seconds()
     ran = subprocess.run([*TOOL, *words], cwd=folder, capture_output=True, text=True)
@@ -147,7 +147,7 @@ def timed(folder: str, *words: str, status: int = 0) -> tuple[Took, str]:
 
 
 def try_held(folder: str) -> None:
-    """A book that somebody has is a line, and the others are added up."""
+    """Checks that a book in use is reported on its line, and that the others are added up."""
     with open(os.path.join(folder, "book3", "journal.life"), "rb") as file:
         fcntl.flock(file, fcntl.LOCK_EX)
         _, printed = timed(folder, "books.csv", "value", ON, "--totals", status=8)
@@ -157,7 +157,7 @@ def try_held(folder: str) -> None:
 
 
 class MonthEnd(NamedTuple):
-    """What a month-end takes: positions, a total, rows that are kept, and a report by these."""
+    """What a month-end takes: positions, a total, rows that are kept, and a report on these rows."""
 
     positions: Took
     total: Took
@@ -170,7 +170,7 @@ class MonthEnd(NamedTuple):
 
     @property
     def whole(self) -> Took:
-        """All four together; the loop is the mean of those around them."""
+        """All four together; the loop is the mean of the loops around them."""
         return Took(sum(each.clock for each in self), sum(each.processor for each in self), sum(each.loop for each in self) / 4)
 
 
@@ -187,11 +187,12 @@ def month_end(folder: str) -> MonthEnd:
 
 
 def books_that_fit(folder: str, asked: argparse.Namespace, few: int, ends: float) -> int:
-    """How many books can be measured until the minutes end and on the disk, by the month-end of a few."""
+    """Returns how many books can be measured until the minutes end and fit on the disk, judged by the month-end of a few
+    books."""
     begun = time.monotonic()
     write_books(folder, 0, few, asked)
     written, taken = time.monotonic() - begun, month_end(folder)
-    # they are written, taken, and valued once more
+    # each book is written, its month-end is made, and it is valued once more
     each = (written + taken.seconds + taken.total.clock) / few
     size = os.path.getsize(os.path.join(folder, "book1", "journal.life")) + ROW_BYTES * asked.policies
     left, on_disk = ends - time.monotonic(), few + (shutil.disk_usage(folder).free - DISK_LEFT) // size
@@ -204,7 +205,7 @@ def books_that_fit(folder: str, asked: argparse.Namespace, few: int, ends: float
 
 
 def split_in_four(folder: str, name: str, first: int, policies: int) -> Took:
-    """Divides a book whose policies are numbered from the first one on, and removes the parts."""
+    """Divides a book whose policies are numbered from `first` on, and removes the parts."""
     quarter = policies // 4
     rules = [*(f"numbers={first + quarter * place}-{first + quarter * (place + 1) - 1}" for place in range(3)), "others"]
     parts = [f"{name}-part{place}" for place in range(4)]
@@ -215,7 +216,7 @@ def split_in_four(folder: str, name: str, first: int, policies: int) -> Took:
 
 
 def divide_smaller(folder: str, asked: argparse.Namespace) -> Took:
-    """Divides the book of --divided commands, in a folder of its own, and prints the row of FIGURES."""
+    """Divides a book of --divided commands, in a folder of its own, and prints its row for docs/development/figures.md."""
     policies = asked.divided // asked.commands
     alone = os.path.join(folder, "smaller")
     os.mkdir(alone)
@@ -228,8 +229,8 @@ def divide_smaller(folder: str, asked: argparse.Namespace) -> Took:
 
 
 def divide_listed(folder: str, asked: argparse.Namespace, smaller: Took | None, ends: float) -> float:
-    """The seconds that the division of a book of the list takes; where these wouldn't be over in time, as the smaller one's
-    tell them."""
+    """Returns the seconds that the division of a book of the list takes; if there isn't enough time, they are estimated from
+    the division of the smaller book."""
     commands = asked.policies * asked.commands
     carried: float = smaller.clock * commands / asked.divided if smaller else 0
     if time.monotonic() + carried > ends:
@@ -264,7 +265,7 @@ def measure(folder: str, asked: argparse.Namespace) -> None:
 
 
 def tell_company(asked: argparse.Namespace, books: int, size: int, taken: MonthEnd, split: float) -> None:
-    """The rows of the page, carried on by plain proportion."""
+    """Prints the rows of the page, extrapolated in proportion to the number of books."""
     wanted = math.ceil(asked.company / asked.policies)
     one = taken.seconds / 60 * wanted / books
     print(f"carried on from {books} books to {asked.company:,} policies by plain proportion:")

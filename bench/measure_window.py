@@ -1,10 +1,12 @@
 #!/usr/bin/env python3
-"""The times and the memory of a window on a large book: its first page, pages that ask the program something new, all others.
+"""Measures the times and the memory of a window on a large book: its first page, pages for which the program computes something
+new, and other pages.
 
 usage: measure_window.py [COMMANDS [POLICIES]]
 
-The book has so many commands (1,000,000) on so many policies (a quarter): issues and premiums of three years. The program is
-the proved one, or LIFE_PROGRAM. The memory is what the window and all that it runs have together, without what they share.
+The book has COMMANDS commands (1,000,000) on POLICIES policies (a quarter of that): issues and premiums of three years. The
+program is the proved one, or LIFE_PROGRAM. The memory is that of the window and all processes that it runs, with shared memory
+counted once.
 """
 from __future__ import annotations
 
@@ -36,7 +38,7 @@ OTHERS = ("/1/", "/1/find", "/1/find?sort=amount&order=down", "/1/find?number=99
 
 
 class Memory(threading.Thread):
-    """The most memory that a process and its children have had together, in MiB, and what they share counted once."""
+    """The most memory that a process and its children have had together, in MiB; what they share is counted once."""
 
     def __init__(self, process: Any) -> None:
         super().__init__(daemon=True)
@@ -49,7 +51,7 @@ class Memory(threading.Thread):
 
 
 def family(process: Any) -> Any:
-    """A process and all below it."""
+    """Returns a process and all its descendants."""
     below: dict[int, list[int]] = {}
     for name in filter(str.isdigit, os.listdir("/proc")):
         try:
@@ -73,7 +75,7 @@ def own(process: Any) -> Any:
 
 
 def spent(process: Any) -> float:
-    """The processor seconds of a process and of the children that it has waited for."""
+    """Returns the processor seconds of a process and of the children that it has waited for."""
     with open(f"/proc/{process}/stat") as file:
         fields = file.read().rsplit(")", 1)[1].split()
     return sum(map(int, fields[11:15])) / os.sysconf("SC_CLK_TCK")
@@ -88,7 +90,7 @@ class Window:
         self.run: Any = subprocess.Popen(words, stdout=subprocess.PIPE, stderr=subprocess.DEVNULL, text=True)
         self.memory = Memory(self.run.pid)
         self.memory.start()
-        # to a pipe the path of the file with the address is printed
+        # the path of the file with the address is printed, because the output is a pipe
         with open(self.run.stdout.readline().strip(), encoding="ascii") as file:
             self.address = urlsplit(file.read().strip())
         self.root, self.cookie = self.address.path.rstrip("/"), ""
@@ -105,7 +107,8 @@ class Window:
         return answer.status, answer
 
     def seconds(self, path: str) -> Any:
-        """Until the page is there, as often as it has to be asked for; and the longest single answer."""
+        """Returns the seconds until the page is there, with as many requests as that needs, and those of the longest single
+        reply."""
         begun, longest = time.perf_counter(), 0.0
         while True:
             asked = time.perf_counter()

@@ -1,9 +1,9 @@
-"""The projection of the policies of a drawn workload by exact fractions, to hold beside `measure projections`.
+"""Computes the projection of the policies of a drawn workload by exact fractions, for comparison with `measure projections`.
 
     python3 bench/plain_projections.py SEED COUNT YEARS
 
-It prints the line that `measure projections` prints, and fails where a rounded total doesn't enclose the exact one, or
-lies further from it than two cents and one more for each thousand policies. Nothing here is proved.
+It prints the line that `measure projections` prints. It fails if a rounded total doesn't enclose the exact one, or if its bounds
+are further apart than two cents plus one cent for each thousand policies. Nothing here is proved.
 """
 
 import datetime
@@ -26,7 +26,7 @@ class Draws:
 
 
 def completed(issued: int, on: int) -> int:
-    """The whole years between two days; that of 29 February has come on 28 February of a common year."""
+    """Returns the whole years between two days; the anniversary of 29 February is 28 February in a common year."""
     first, last = (datetime.date(1970, 1, 1) + datetime.timedelta(days=day) for day in (issued, on))
     years = last.year - first.year
     leap = last.year % 4 == 0 and (last.year % 100 != 0 or last.year % 400 == 0)
@@ -39,7 +39,7 @@ def up(number: int, divisor: int) -> int:
 
 
 class Total:
-    """One total of one year: the lower and the upper sum in units, and the exact one in cents."""
+    """One total of one year: the lower and the upper sum in units, and the exact sum in cents."""
 
     def __init__(self) -> None:
         self.lower, self.upper, self.exact = 0, 0, fractions.Fraction(0)
@@ -54,7 +54,7 @@ class Total:
 
 
 def add_policy(totals: list[list[Total]], draws: Draws) -> bool:
-    """Adds the next policy that is drawn; whether it has no value."""
+    """Adds the next drawn policy; returns whether it has no value."""
     plan, age, years = draws.below(4), 20 + draws.below(60), 2 + draws.below(20)
     units, issued = draws.below(1000) + 1, 10957 + draws.below(3650)
     amount, premium = units * 100000, units * 2000

@@ -1,7 +1,7 @@
-"""How the scripts of this folder time a run: at real-time priority, with whoever watches it above it.
+"""Times runs for the scripts of this folder: at real-time priority, with the watching process above them.
 
-At a high weight alone a thread that wakes where its processor is busy waits for the next tick of 4 ms, so that a figure
-tells of the other work. Where the machine doesn't give real-time priority, that is said once on standard error.
+With a high weight alone, a thread that wakes while its processor is busy waits for the next tick of 4 ms, so that a figure also
+shows the other work. If the machine gives no real-time priority, this is reported once on standard error.
 """
 from __future__ import annotations
 
@@ -19,19 +19,19 @@ from typing import Any, NamedTuple, TypeVar
 
 import workload
 
-# a script that is begun at a real-time priority of its own times at that one, where other work has the lowest
+# a script that was started at a real-time priority of its own times at that priority, if other work has the lowest one
 TIMED = max(os.sched_getparam(0).sched_priority, 1)
 WATCHER = TIMED + 1
 FIRST_MARK, LAST_MARK = 4294967294, 4294967295
 ROOT = os.path.dirname(os.path.dirname(os.path.abspath(__file__)))
 
 Value = TypeVar("Value")
-# a row of the table: what, the figure, beside what
+# a row of the table: what is measured, the figure, and what it is compared with
 Row = tuple[str, str, str]
 
 
 class Run(NamedTuple):
-    """Seconds by the clock, of the processors, and the most memory in MiB."""
+    """The seconds by the clock, the seconds of the processors, and the most memory in MiB."""
 
     clock: float
     used: float
@@ -39,7 +39,7 @@ class Run(NamedTuple):
 
 
 class Setting(NamedTuple):
-    """The program, a folder on a real disk, one in memory where there is any, and how many rounds."""
+    """The program, a folder on a real disk, a folder in memory if there is one, and the number of rounds."""
 
     program: str
     disk: str
@@ -52,8 +52,9 @@ def set_priority(level: int) -> None:
 
 
 def watch() -> None:
-    """Puts this process above what it will time; without the right to do so nothing has real-time priority."""
-    # ended from outside it takes its folders away, too
+    """Gives this process a higher priority than the processes that it will time; without the right to do so nothing has
+    real-time priority."""
+    # if it is ended from outside, it removes its folders, too
     signal.signal(signal.SIGTERM, lambda *_: sys.exit(143))
     try:
         set_priority(WATCHER)
@@ -62,7 +63,7 @@ def watch() -> None:
 
 
 def below_watcher() -> None:
-    """In a new process, before its program begins."""
+    """Sets the priority of a new process, before its program starts."""
     if os.sched_getscheduler(0) == os.SCHED_FIFO:
         set_priority(TIMED)
 
@@ -93,7 +94,7 @@ def timed(words: list[str], folder: str, script: str = os.devnull, written: str 
 
 
 def in_turn(rounds: int, ways: Mapping[Any, Callable[..., Value]]) -> dict[Any, list[Value]]:
-    """What each way gives in so many rounds, every other round from the last to the first."""
+    """Returns the results of each way in this number of rounds; every other round goes from the last way to the first."""
     found: dict[Any, list[Value]] = {name: [] for name in ways}
     for number in range(rounds):
         for name in list(ways) if number % 2 == 0 else list(ways)[::-1]:
@@ -106,7 +107,7 @@ def median(values: Sequence[Any], part: str | None = None) -> float:
 
 
 def build_plain(name: str, folder: str) -> str:
-    """A plain program of this folder, in Rust or C, to stand beside `life`."""
+    """Builds a plain program of this folder, in Rust or C, for comparison with `life`."""
     built = os.path.join(folder, name)
     rust = os.path.join(ROOT, "bench", name + ".rs")
     if os.path.exists(rust):
@@ -117,7 +118,7 @@ def build_plain(name: str, folder: str) -> str:
 
 
 def measure_program() -> str:
-    """The program `measure`, which runs single functions of the crates again and again."""
+    """Returns the program `measure`, which runs single functions of the crates again and again."""
     given = os.environ.get("MEASURE_PROGRAM")
     if given:
         return given
@@ -127,7 +128,7 @@ def measure_program() -> str:
 
 
 class Folder:
-    """A new folder with table G and the basis at 4 percent."""
+    """A new folder with table G and a basis at 4 percent."""
 
     def __init__(self, parent: str) -> None:
         self.path = tempfile.mkdtemp(prefix="figures.", dir=parent)
@@ -157,12 +158,12 @@ def mark(lane: int, number: int) -> list[str]:
 
 
 def marked(lane: int, lines: list[str]) -> list[str]:
-    """Lines between two postings that tell by when they ran."""
+    """Returns the lines between two postings, whose times show when the lines ran."""
     return mark(lane, FIRST_MARK) + lines + mark(lane, LAST_MARK)
 
 
 class Watched:
-    """One run of a script: when the journal grew, when the marks stood in it, and how long the whole took."""
+    """One run of a script: when the journal grew, when the marks were in it, and how long the whole run took."""
 
     def __init__(self, program: str, folder: Folder, lines: list[str]) -> None:
         script = folder.at("script.csv")
@@ -186,7 +187,7 @@ class Watched:
         with open(path, "rb") as file:
             file.seek(seen)
             new = file.read(size - seen)
-        # what is new begins with a body, whose gate stood there before
+        # the new part begins with a body; its commit byte was there before
         for number in (FIRST_MARK, LAST_MARK):
             if b"\x1e\x14" + number.to_bytes(4, "big") in new:
                 self.marks.setdefault(number, now)
@@ -202,14 +203,14 @@ class Watched:
 
 
 def counted_bytes(process: int) -> tuple[int, int]:
-    """How many bytes a process has read and has written by now."""
+    """Returns how many bytes a process has read and written so far."""
     with open(f"/proc/{process}/io", encoding="ascii") as file:
         told = dict(line.split(": ") for line in file)
     return int(told["rchar"]), int(told["wchar"])
 
 
 def from_last_read_to_first_write(words: list[str], folder: str) -> float:
-    """Seconds of a run in which it neither reads nor writes: of a valuation with its text, or a projection."""
+    """Returns the seconds in which a run neither reads nor writes: a valuation with the making of its text, or a projection."""
     run = start(words, folder)
     read, wrote, last_read = 0, 0, time.perf_counter()
     while run.poll() is None and not wrote:

@@ -1,4 +1,5 @@
-"""Waits until a scheduler of Dask has so many workers, two minutes at most; with no words, whether Dask is there.
+"""Waits, for at most two minutes, until a scheduler of Dask has this number of workers; without arguments it only checks whether
+Dask is installed.
 
 usage: python3 workers.py [ADDRESS COUNT]
 """

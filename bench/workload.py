@@ -1,4 +1,4 @@
-"""The journals and scripts that the scripts of this folder measure over, drawn as `life generate` draws."""
+"""Writes the journals and scripts over which the scripts of this folder measure, drawn as `life generate` draws them."""
 from __future__ import annotations
 
 import os
@@ -13,7 +13,7 @@ FIRST_DAY = 10957
 
 
 class Draws:
-    """The generator of `life generate`."""
+    """The random numbers of `life generate`."""
 
     def __init__(self, seed: int) -> None:
         self.x = seed
@@ -28,7 +28,7 @@ def record(kind: int, number: int, day: int, head: tuple[int, int, int] = (0, 0,
 
 
 def write_journal(path: str, records: Iterable[bytes]) -> None:
-    """A journal of these records, safe on the disk."""
+    """Writes a journal of these records, and syncs it."""
     with open(path, "wb") as file:
         file.write(HEADER)
         file.writelines(records)
@@ -38,7 +38,7 @@ def write_journal(path: str, records: Iterable[bytes]) -> None:
 
 
 def drawn_policies(count: int, seed: int = 1) -> Iterator[bytes]:
-    """Issues of the workload, with numbers in a row."""
+    """Yields the issues of the workload, with consecutive policy numbers."""
     draws = Draws(seed)
     for number in range(1, count + 1):
         plan, age, years = draws.below(4) + 1, draws.below(60) + 20, draws.below(20) + 2
@@ -47,19 +47,20 @@ def drawn_policies(count: int, seed: int = 1) -> Iterator[bytes]:
 
 
 def numbers_at_random(count: int) -> Iterator[int]:
-    """Numbers in no order, 249 apart: the factor has no divisor in common with a count of millions, so each comes once."""
+    """Yields numbers in no order, 249 apart. The factor has no common divisor with a count of millions, so each number comes
+    once."""
     return (1 + 249 * (place * 2654435761 % count) for place in range(count))
 
 
 def like_policies(count: int, numbers: Iterable[int] | None = None) -> Iterator[bytes]:
-    """Issues that differ in their numbers alone, which are in a row where none are given."""
+    """Yields issues that differ only in their numbers, which are consecutive unless they are given."""
     body = record(ISSUE, 0, 18262, (3, 0, 3), 100000, 40000)
     for number in numbers or range(1, count + 1):
         yield body[:5] + number.to_bytes(4, "big") + body[9:]
 
 
 def issue_lines(lanes: Sequence[int], count: int, first: int = 1000001) -> list[str]:
-    """So many lines of a script that issue policies, dealt to the lanes in turn."""
+    """Returns this number of lines of a script that issue policies, dealt to the lanes in turn."""
     return [f"{lanes[n % len(lanes)]},issue,{first + n},2020-01-01,endowment,30,20,1000.00,40.00" for n in range(count)]
 
 

@@ -1,9 +1,9 @@
-"""The worst scripts, bases, tables and journals of the allowed size: seconds and memory of the program on each.
+"""Runs the program on the worst scripts, bases, tables and journals of the allowed size, and prints its time and memory.
 
 usage: python3 worst_cases.py PROGRAM FOLDER PART [NAME..]
 
-The sizes are divided by PART, so that a case that isn't linear shows itself by two runs. Each line has the case, seconds,
-processor seconds, MiB at the most, the status and the last line printed. With names, just the cases that begin with one.
+The sizes are divided by PART, so that two runs show a case that isn't linear. Each line has the case, seconds, processor seconds,
+the most MiB, the status and the last line printed. With names, only the cases that begin with one of them are run.
 """
 from __future__ import annotations
 
@@ -27,7 +27,7 @@ AXIS = b"<XTbML><Table><Values><Axis>", b"</Axis></Values></Table></XTbML>"
 
 
 def filled(piece: Any, size: int, head: bytes = b"", tail: bytes = b"") -> Any:
-    """So many bytes at the most: a head, a piece again and again, and a tail."""
+    """Returns at most this number of bytes: a head, a piece again and again, and a tail."""
     return head + piece * ((size - len(head) - len(tail)) // len(piece)) + tail
 
 
@@ -54,7 +54,8 @@ TABLES = {
 
 
 def make_bases(folder: str, part: Any, is_same: Any) -> None:
-    """A basis of a thousand rows, of one name or of as many; each names a table of 4 MiB, which is one file on the disk."""
+    """Writes a basis of a thousand rows, with one table name or with as many as rows; each name is a table of 4 MiB, which is
+    one file on the disk."""
     rows = ROWS // part
     with open(os.path.join(folder, "t.xml"), "wb") as file:
         file.write(filled(b"\n", FILE, b"", GOOD))
@@ -72,7 +73,8 @@ def write_file(folder: str, name: str, data: bytes) -> None:
 
 
 def cases(part: Any) -> Iterator[Any]:
-    """Each case as its name, the words, and what makes its files in a folder; a script is the file `script`."""
+    """Yields each case: its name, the arguments, and a function that makes its files in a folder; a script is the file
+    `script`."""
     for name, pieces in SCRIPTS.items():
         yield name, ["run"], lambda folder, pieces=pieces: write_file(folder, "script",
                                                                       filled(pieces[0], SCRIPT // part, *pieces[1:]))
@@ -93,8 +95,8 @@ def cases(part: Any) -> Iterator[Any]:
 
 
 def measured(program: str, folder: str, words: list[str]) -> Any:
-    """Seconds, processor seconds, MiB, status and last line. GNU time starts the program: a child of Python's own would be
-    reckoned with the memory of Python."""
+    """Returns seconds, processor seconds, MiB, status and last line. GNU time starts the program, because a child of Python
+    itself would be counted with Python's memory."""
 
     def path(name: str) -> str:
         return os.path.join(folder, name)

@@ -1,10 +1,10 @@
 #!/bin/sh
-# Seconds and memory of the program on the worst files of the allowed size: scripts, bases, tables and journals.
+# Measures the seconds and memory of the program on the worst files of the allowed size: scripts, bases, tables and journals.
 #
 # usage: sh bench/worst_cases.sh [PART [NAME..]]
 #
-# The sizes are divided by PART, 1 where it is absent: a case is linear where half its size takes half its time. With
-# names, just the cases whose names begin so. LIFE_PROGRAM may name another program than the proved one.
+# The sizes are divided by PART, which is 1 by default: a case is linear if half its size takes half its time. With names,
+# only the cases whose names begin with one of them are run. LIFE_PROGRAM may name another program than the proved one.
 root=$(cd "$(dirname "$0")/.." && pwd) || exit 2
 . "$root/bench/common.sh"
 program=${LIFE_PROGRAM:-$root/crates/life_cli/out/life_cli}
