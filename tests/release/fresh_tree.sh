@@ -1,7 +1,7 @@
 #!/bin/sh
-# A fresh Debian without the kit, as a tar file, for the tests of a release: fresh_tree.sh prints where it lies, and why
-# there is none where it can't be made (status 1). It is made once, by debootstrap, and kept outside the repository; it
-# has what the window needs, and nothing else that the package recommends.
+# Makes a fresh Debian without the kit, as a tar file, for the tests of a release, and prints its path. If it can't be made, the
+# script prints why and ends with status 1. It is made once, by debootstrap, and kept outside the repository; it has the packages
+# that the window needs, and nothing else that the package recommends.
 suite=$(sed -n 's/^VERSION_CODENAME=//p' /etc/os-release)
 packages=python3,python3-flask,python3-numpy
 cache=${LIFE_CACHE:-${XDG_CACHE_HOME:-${HOME:-/root}/.cache}/life}
