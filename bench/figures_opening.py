@@ -62,7 +62,7 @@ def paid_policies(policies: int) -> Iterator[bytes]:
 
 
 def take_checkpoints(setting: timing.Setting, folder: timing.Folder, ages: tuple[int, ...]) -> timing.Run:
-    """Makes checkpoints that are this many commands old, and returns the run that made the one of all commands."""
+    """Makes a checkpoint of each of these ages, counted in commands, and returns the run that made the one of all commands."""
     records = list(paid_policies(MILLION))
     runs: dict[int, timing.Run] = {}
     for age in ages:

@@ -1,1 +1,1 @@
-"""The suite: `pytest` at the root runs it; CONTRIBUTING.md tells how a case is added."""
+"""The suite: `pytest` at the root runs it; CONTRIBUTING.md describes how a case is added."""

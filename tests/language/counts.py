@@ -24,7 +24,7 @@ DURABLE = ["life_app.specs.Durable.IsDurable", "life_app.specs.Durable.SpellsCom
 VALUES = ["life_app.specs.Values.IsEnclosed", "life_app.specs.Values.HoldsCommands", RESERVES]
 LEGAL = ["life_app.specs.Legality.IsLegallyAnswered"]
 WHOLE = [*HEADLINE, "life_app.specs.Headline.IsUnrun", *GIVEN, *PREMISES, *DISK_MODEL]
-# why no transcript stands there, what was written of it by status, and what is safe when it is shown
+# the definitions that say why there is no transcript, what of it was written by status, and what is safe once it is shown
 TOLD = ["script_run.specs.Script.EndsUnread", "program_endings.specs.WithoutBasis.EndsNoBasis",
         "program_endings.specs.Refusals.EndsNoOffice", "script_run.specs.Texts.WroteAsEnded",
         "script_run.specs.Shown.AreSafeWhenShown", "outside_io.specs.Streams.TakenPiece"]

@@ -37,7 +37,7 @@ class FaultyRun(Run):
     def __init__(self, lines: list[Line], book: Book, basis: list[BasisRow], known: Known) -> None:
         super().__init__(lines, book, basis, known)
         self.faults = self.unserved = 0
-        # the lines that were answered `fault` and after which a line was accepted
+        # how many lines were answered `fault` before the last accepted one
         self.recovered = 0
         # the commands that the file may hold beyond the accepted ones
         self.in_doubt: list[Command] = []

@@ -101,7 +101,7 @@ class Refused(Lacking):
 
 
 def numbers(count: int) -> list[int]:
-    """Returns which of so many requests are refused."""
+    """Returns the numbers of the requests that are refused, of `count` requests in all."""
     beyond = range(EACH + 1, count + 1)
     return [*range(1, min(EACH, count) + 1), *beyond[::max(1, len(beyond) // SPREAD)]]
 

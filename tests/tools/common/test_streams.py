@@ -45,7 +45,7 @@ def test_an_output_that_cant_be_written(office: Folder, words: str, status: int,
 
 @pytest.mark.parametrize("words, status", PRINT)
 def test_a_reader_that_has_left(office: Folder, words: str, status: int) -> None:
-    """Some output was lost, so the status isn't 0, and a status of 1 stays 1."""
+    """If output is lost, a status of 0 may become 1; a status of 1 stays 1."""
     ended, said = ran(office, words, '| true; exit "${PIPESTATUS[0]}"', {"PYTHONUNBUFFERED": "1"})
     assert ended in (1, status) and "Traceback" not in said and "Broken pipe" not in said, (ended, said)
     if words == "check small-office.csv":

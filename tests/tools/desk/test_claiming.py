@@ -33,7 +33,7 @@ def desk(folder: Folder) -> Desk:
 
 @pytest.fixture
 def unseen(monkeypatch: pytest.MonkeyPatch) -> None:
-    """Makes the system not report who has a file open, as it does for files of other users."""
+    """Makes `day` not see who has a file open, which the system reports only for the caller's own files."""
     monkeypatch.setattr(claiming, "is_being_written", lambda path: False)
 
 

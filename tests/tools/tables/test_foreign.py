@@ -237,7 +237,7 @@ def test_refused(examples_basis: Folder, words: str, says: str) -> None:
 
 
 def test_names_that_a_basis_cant_have(folder: Folder) -> None:
-    """A table whose name has a blank, and a table in a file with another name's purpose, are checked all the same."""
+    """A table is checked even if its name has a blank, or if its file has the name of a basis."""
     folder.take("q.xml")
     folder.write("a name.xml", folder.read("q.xml"))
     folder.write("basis.csv", folder.read("q.xml"))

@@ -175,7 +175,7 @@ def day_lists(browser: Any, book: Book) -> None:
 
 
 def administrator(browser: Any, book: Book, base: str) -> None:
-    """Looks through lists, and takes up what was posted since; an earlier page stays as it was."""
+    """Looks through lists, and goes to what was posted since; an earlier page stays as it was."""
     browser.open(base + "/1/find")
     browser.choose("Plan", "endowment")
     browser.press("Find")
