@@ -1,4 +1,4 @@
-"""numpy, which all columns are made of; a tool that lacks it says so and ends with 2."""
+"""Imports numpy, which all columns are made of. If numpy is missing, the tool prints that and ends with status 2."""
 from __future__ import annotations
 
 from typing import TYPE_CHECKING, Any
@@ -12,7 +12,7 @@ if TYPE_CHECKING:
     from numpy.typing import NDArray
 
     Array = NDArray[Any]
-    # amounts, which no float may keep
+    # amounts in cents: never floats, which would round them
     Cents = NDArray[np.int64]
 else:
     np = package("numpy", "python3-numpy")

@@ -1,6 +1,6 @@
-"""Files that a tool writes: each is there whole or not at all, and none takes the place of a book's own file.
+"""Writes the files of the tools: each file is complete or not there at all, and none replaces a book's own file.
 
-What is written lies meanwhile under a private name beside its place, which no other file has.
+Until a file is complete, it has a private name in the same folder that no other file has.
 """
 from __future__ import annotations
 
@@ -12,9 +12,9 @@ from typing import Callable
 
 from life_tools.common.formats import KINDS, Wrong, bytes_of, demand, rows_in
 
-# names that are a book's own, whatever lies there
+# names that belong to a book; they are never written, whatever file has them
 OWN_NAMES = ("journal.life", "checkpoint.life", "basis.csv", "desk.toml")
-# so much of a file is looked at to tell what it is
+# number of bytes at the start of a file that are read to find out what it is
 LOOKED_AT = 1 << 12
 SCRIPT_ROW = re.compile(f'"?[1-8]"?,"?({"|".join((*KINDS.values(), "value", "trim"))})"?(,|\r|\n|$)')
 BASIS_ROW = re.compile('"?[0-9]{4}-[0-9]{2}-[0-9]{2}"?,"?[A-Za-z0-9][A-Za-z0-9._-]{0,63}"?,"?[0-9]+"?[ \t]*(\r|\n|$)')
@@ -23,7 +23,7 @@ BASIS_ROW = re.compile('"?[0-9]{4}-[0-9]{2}-[0-9]{2}"?,"?[A-Za-z0-9][A-Za-z0-9._
 # --- what isn't replaced ---
 
 def kind_of(data: bytes) -> str | None:
-    """What of a book a file is, by its first bytes."""
+    """Returns which kind of file of a book begins with these bytes, or None if it is none of them."""
     if data[1:9] in (b"LIFEJRNL", b"LIFECHKP"):
         return "a journal" if data[1:9] == b"LIFEJRNL" else "a checkpoint"
     if b"<XTbML" in data:
@@ -35,14 +35,14 @@ def kind_of(data: bytes) -> str | None:
 
 
 def named_in_basis(path: str) -> bool:
-    """Whether the basis of the folder names a file as a table."""
+    """Returns whether the basis of the file's folder names this file as a table."""
     folder, name = os.path.split(path)
     basis = os.path.join(folder, OWN_NAMES[2])
     return os.path.isfile(basis) and any(name in row.fields[1:2] for row in rows_in(bytes_of(basis)))
 
 
 def demand_replaceable(path: str) -> None:
-    """Refuses to write in the place of a journal, a checkpoint, a basis, a table or a script, or of what is no file."""
+    """Raises Wrong if the path is a journal, a checkpoint, a basis, a table or a script, or something that is not a file."""
     demand(os.path.basename(path) not in OWN_NAMES, f"{path} is a book's own file, and nothing else is written there")
     if not os.path.lexists(path):
         return
@@ -55,14 +55,14 @@ def demand_replaceable(path: str) -> None:
 # --- how it is written ---
 
 def open_mode(of: int) -> int:
-    """The mode that a new file or folder gets, which a private one hasn't."""
+    """Returns the mode that the umask allows a new file or folder; temporary ones are made with a private mode."""
     mask = os.umask(0)
     os.umask(mask)
     return of & ~mask
 
 
 def written_whole(path: str, write: Callable[[str], None]) -> None:
-    """A file that is there whole or not at all."""
+    """Has `write` fill a temporary file and renames it to the path, so that the file is complete or not there at all."""
     part = None
     try:
         demand_replaceable(path)
@@ -80,7 +80,7 @@ def written_whole(path: str, write: Callable[[str], None]) -> None:
 
 
 def demand_new(*folders: str) -> None:
-    """Demands that new folders can be made under these names."""
+    """Raises Wrong unless new folders can be made under these names."""
     for folder in folders:
         demand(not os.path.lexists(folder), f"{folder} is there already")
         demand(os.path.isdir(os.path.dirname(os.path.abspath(folder))), f"{folder}: No such file or directory")
@@ -88,7 +88,7 @@ def demand_new(*folders: str) -> None:
 
 
 def write_folder(folder: str, write: Callable[[str], None]) -> None:
-    """A new folder, which is there whole or not at all."""
+    """Has `write` fill a temporary folder and renames it, so that the new folder is complete or not there at all."""
     demand_new(folder)
     above, name = os.path.split(os.path.abspath(folder))
     part = None

@@ -1,6 +1,7 @@
-"""What the files and lines of `life` are made of: days, amounts, whole numbers, rows of fields, and their limits.
+"""Reads what the files and lines of `life` consist of: days, amounts, whole numbers, rows of fields, and their limits.
 
-Written from docs/reference/ alone, as all of tools/ is, so that the program can be checked without it.
+Like everything in tools/, this is written from docs/reference/ alone and shares no code with the program, so that it can check
+the program.
 """
 from __future__ import annotations
 
@@ -32,11 +33,11 @@ MOST_YEARS = 131
 PLANS = {1: "term", 2: "whole", 3: "endowment", 4: "limited"}
 KINDS = {1: "issue", 2: "premium", 3: "alter", 4: "lapse", 5: "reinstate", 6: "claim", 7: "settle", 8: "mature", 9: "upgrade",
          10: "paidup"}
-# in the order of their codes in a checkpoint, from 1
+# in the order of their codes in a checkpoint, which count from 1
 STATUSES = ("inforce", "lapsed", "claimed", "matured", "expired", "settled", "paidup")
-# what a valuation may show; the first line says it, but of the first one
+# what a valuation may show; the first line of a valuation names its measure, except the default one, `terminal`
 MEASURES = ("terminal", "mean", "deficiency")
-# what a posting has after its day
+# the fields that a posting has after its day
 FIELDS = {
     "issue": ("plan", "age", "years", "amount", "premium"),
     "premium": ("amount",),
@@ -47,7 +48,7 @@ FIELDS = {
     "settle": ("amount",),
     "mature": (),
     "paidup": ("amount",),
-    # which has no policy and no day either
+    # an upgrade has no policy number and no day either
     "upgrade": (),
 }
 
@@ -55,7 +56,7 @@ Read = TypeVar("Read")
 
 
 class Wrong(Exception):
-    """Something isn't as it must be; the text says what. A tool ends with the status."""
+    """Something is not as it must be. The text says what, and the tool ends with the status."""
 
     status = 2
 
@@ -70,7 +71,7 @@ def remark(message: str) -> None:
 
 
 def opened(path: str) -> io.BufferedReader:
-    """A file for reading. A pipe or a device is refused at once: a tool would wait for the one, and never end with the other."""
+    """Opens a file for reading. It refuses a pipe, for which a tool would wait, and a device, which a tool might never finish."""
     try:
         handle = os.open(path, os.O_RDONLY | os.O_NONBLOCK | os.O_CLOEXEC)
     except OSError as error:
@@ -91,7 +92,7 @@ def bytes_of(path: str) -> bytes:
 
 
 def read_whole(path: str, most: int, read: Callable[[bytes], Read]) -> Read:
-    """What is read of a file of at most so many bytes; what is wrong with it is reported with its name."""
+    """Reads a file of at most `most` bytes and returns what `read` makes of it; an error is reported with the file's name."""
     data = bytes_of(path)
     try:
         demand(len(data) <= most, f"it has {len(data)} bytes, and at most {most} are read")
@@ -101,7 +102,7 @@ def read_whole(path: str, most: int, read: Callable[[bytes], Read]) -> Read:
 
 
 def printed_text(path: str) -> str:
-    """What the program printed, as a file of it."""
+    """Returns the text of a file that holds output of the program."""
     return bytes_of(path).decode("ascii", "replace")
 
 
@@ -113,14 +114,15 @@ DAY = re.compile("[0-9]{4}-[0-9]{2}-[0-9]{2}")
 
 
 def number_of(text: str, least: int, most: int) -> int | None:
-    """A whole number of decimal digits, without a sign and without a leading zero."""
+    """Returns the whole number of a text of decimal digits without a sign or a leading zero, or None if it is outside the
+    limits."""
     if not NUMBER.fullmatch(text):
         return None
     return int(text) if least <= int(text) <= most else None
 
 
 def cents_of(text: str, most: int = MOST_CENTS) -> int | None:
-    """An amount with a point and two digits, from 0.01 on, in cents."""
+    """Returns an amount with a point and two digits, from 0.01 up to `most`, in cents, or None if the text is no such amount."""
     if not CENTS.fullmatch(text):
         return None
     cents = int(text.replace(".", ""))
@@ -128,7 +130,7 @@ def cents_of(text: str, most: int = MOST_CENTS) -> int | None:
 
 
 def printed_cents(text: str) -> int:
-    """An amount or a balance as the program prints it, in cents."""
+    """Returns an amount or a balance in cents; the text has the form in which the program prints it."""
     demand(re.fullmatch(r"-?(0|[1-9][0-9]{0,18})\.[0-9]{2}", text), f"{text[:40]} is no amount")
     return int(text.replace(".", ""))
 
@@ -139,7 +141,7 @@ def money(cents: int) -> str:
 
 @lru_cache(2**17)
 def day_of(text: str) -> datetime.date | None:
-    """A day `YYYY-MM-DD` of the calendar, from 1900-01-01 to 2199-12-31."""
+    """Returns the day of a text `YYYY-MM-DD` from 1900-01-01 to 2199-12-31, or None if it is no such day."""
     if not DAY.fullmatch(text):
         return None
     try:
@@ -150,7 +152,7 @@ def day_of(text: str) -> datetime.date | None:
 
 
 def day_in(text: str) -> datetime.date:
-    """A day that must be one."""
+    """Returns the day of a text and raises Wrong if it is none."""
     day = day_of(text)
     if day is None:
         raise Wrong(f"{text} is no day YYYY-MM-DD from {FIRST_DAY} to {LAST_DAY}")
@@ -161,7 +163,7 @@ def day_in(text: str) -> datetime.date:
 
 @dataclass(frozen=True, slots=True)
 class Row:
-    """A row of a file: its number and the line of an editor where it begins, both from 1; its fields, and its text."""
+    """A row of a file: its number, the line on which it begins in an editor (both count from 1), its fields, and its text."""
 
     number: int
     line: int
@@ -175,32 +177,35 @@ LINE_END = re.compile("\r\n|\r|\n")
 
 
 def text_of(data: bytes) -> str:
-    """The text of a file without a byte order mark at its start; bytes that are no UTF-8 stay recognizable."""
+    """Returns a file's text without a byte order mark.
+
+    Bytes that are not UTF-8 become surrogates, so that they can be recognized.
+    """
     mark = b"\xef\xbb\xbf"
     return data[len(mark) if data.startswith(mark) else 0:].decode("utf-8", "surrogateescape")
 
 
 def field_at(text: str, at: int) -> tuple[str, int]:
-    """The field that begins at a place, and the place after it."""
+    """Returns the field that begins at a place of the text, and the place after it."""
     quoted = QUOTED.match(text, at)
     if not quoted:
         plain = PLAIN.match(text, at)
         assert plain
         return plain[0], plain.end()
     if not quoted[2]:
-        # a field in quotes that isn't ended goes to the end of the text
+        # a quoted field without a closing quote goes on to the end of the text
         return quoted[1].replace('""', '"'), len(text)
     return quoted[1].replace('""', '"') + quoted[3], quoted.end()
 
 
 def rows_in(data: bytes) -> list[Row]:
-    """The rows of a file, as the library `csv` of the program reads them: an empty line is no row."""
+    """Returns the rows of a file as the program's library `csv` reads them: an empty line is not a row."""
     text = text_of(data)
     return quoted_rows(text) if '"' in text else plain_rows(text)
 
 
 def plain_rows(text: str) -> list[Row]:
-    """The rows of a text without a quote: each is one line."""
+    """Returns the rows of a text without quotes, in which each row is one line."""
     lines = text.replace("\r\n", "\n").replace("\r", "\n").split("\n")
     full = ((number, line) for number, line in enumerate(lines, 1) if line)
     return [Row(row, number, tuple(line.split(",")), line) for row, (number, line) in enumerate(full, 1)]
@@ -228,7 +233,8 @@ def quoted_rows(text: str) -> list[Row]:
 
 
 def measure_of(head: list[str]) -> str | None:
-    """The measure of a valuation by the fields of its first line, or none where they are of no valuation."""
+    """Returns the measure of a valuation by the fields of its first line, or None if they are not the first line of a
+    valuation."""
     if len(head) not in (5, 6) or head[1] != "value":
         return None
     named = head[5] if len(head) == 6 else MEASURES[0]
@@ -236,5 +242,5 @@ def measure_of(head: list[str]) -> str | None:
 
 
 def printed_rows(text: str) -> list[list[str]]:
-    """The lines that the program printed, as fields; it never writes a quote."""
+    """Returns the lines that the program printed, split into fields; the program never prints a quote."""
     return [line.split(",") for line in text.splitlines() if line]

@@ -1,4 +1,4 @@
-"""Packages that Debian gives: they are seen by Debian's own Python, which may not be the one that runs these tools."""
+"""Finds Python packages of Debian. Debian's own Python sees them; another Python that runs these tools may not."""
 from __future__ import annotations
 
 import importlib
@@ -12,7 +12,7 @@ from typing import NoReturn
 from life_tools.common.formats import Wrong
 
 DEBIANS, DEBIANS_PACKAGES = "/usr/bin/python3", "/usr/lib/python3/dist-packages"
-# set for a run that was begun anew, so that it isn't once more
+# set in the environment of a restarted run, so that it does not restart once more
 ANEW = "LIFE_TOOLS_ANEW"
 
 
@@ -27,8 +27,8 @@ def is_seen_by_debians(module: str) -> bool:
 
 
 def begin_anew(module: str, debian: str) -> NoReturn:
-    """Begins the tool anew with Debian's Python, where only that one sees the module."""
-    # words after -c can't be begun anew, nor a worker of a cluster
+    """Restarts the tool with Debian's Python if only that Python sees the module, and raises Wrong otherwise."""
+    # code given by -c cannot be restarted, and neither can a worker of a cluster
     is_tool = os.path.isfile(sys.argv[0]) and "distributed" not in sys.modules
     if is_tool and ANEW not in os.environ and is_seen_by_debians(module):
         sys.stdout.flush()
@@ -38,10 +38,10 @@ def begin_anew(module: str, debian: str) -> NoReturn:
 
 
 def package(module: str, debian: str) -> ModuleType:
-    """A module of a package, for which the tool may begin anew: so this is called before anything is read or written."""
+    """Imports and returns a module of a package. It may restart the tool, so call it before anything is read or written."""
     try:
         found = importlib.import_module(module)
-        # what this one starts may begin anew as well
+        # a process that this one starts may restart as well
         os.environ.pop(ANEW, None)
         return found
     except ImportError:
@@ -49,11 +49,11 @@ def package(module: str, debian: str) -> ModuleType:
 
 
 def see(module: str, debian: str) -> None:
-    """Begins anew at once where this Python doesn't have the module, before anything is loaded in vain."""
+    """Restarts at once if this Python does not have the module, before anything is loaded in vain."""
     if importlib.util.find_spec(module) is None:
         begin_anew(module, debian)
 
 
 def stay() -> None:
-    """From here on the tool can't begin anew: what it loads later has to be there."""
+    """Forbids a restart from here on: a module that is loaded later has to be installed for this Python."""
     os.environ[ANEW] = "1"

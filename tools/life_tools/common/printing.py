@@ -1,4 +1,4 @@
-"""A page of HTML as PDF, by a browser or by LibreOffice, whichever is there."""
+"""Prints a page of HTML as PDF with a browser or with LibreOffice, whichever is installed."""
 from __future__ import annotations
 
 import os
@@ -23,7 +23,7 @@ def first_of(names: Sequence[str]) -> str | None:
 
 
 def by_browser(browser: str, page: str, folder: str) -> list[str]:
-    """The words of a browser that prints; where root runs it, it can't shut itself in."""
+    """Returns the command by which a browser prints. Under root a browser cannot use its sandbox, so it runs without one."""
     shut = ["--no-sandbox"] if os.geteuid() == 0 else []
     return [browser, "--headless", "--disable-gpu", *shut, "--no-pdf-header-footer", f"--user-data-dir={folder}/profile",
             f"--print-to-pdf={folder}/page.pdf", f"file://{page}"]
@@ -35,7 +35,7 @@ def by_office(office: str, page: str, folder: str) -> list[str]:
 
 
 def demand_printer() -> tuple[str, bool]:
-    """The program that prints, and whether it is a browser; called before anything is worked out."""
+    """Returns the program that prints and whether it is a browser; called before any figure is computed."""
     browser, office = first_of(BROWSERS), first_of(OFFICES)
     found = browser or office
     if found is None:
@@ -44,7 +44,7 @@ def demand_printer() -> tuple[str, bool]:
 
 
 def write_pdf(path: str, html: str) -> None:
-    """Writes a page as PDF; the page lies in a folder of its own meanwhile."""
+    """Writes a page of HTML as a PDF file; meanwhile the page lies in a temporary folder."""
     program, is_browser = demand_printer()
     with tempfile.TemporaryDirectory(prefix="life-tools-") as folder:
         page, made = os.path.join(folder, "page.html"), os.path.join(folder, "page.pdf")

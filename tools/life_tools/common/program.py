@@ -1,4 +1,4 @@
-"""How the tools run `life`: the proved program, and only on copies of a journal or for answers that post nothing."""
+"""Runs `life` for the tools: the proved program, and only on copies of a journal or with commands that post nothing."""
 from __future__ import annotations
 
 import hashlib
@@ -11,15 +11,15 @@ from typing import NamedTuple
 from life_tools.common.formats import bytes_of, demand, remark
 from life_tools.common.revisions import built_with
 
-# what each page, sheet and file says of a program that isn't the one that these tools belong to
+# what every page, sheet and file prints if it was made with a program other than the one that these tools belong to
 UNPROVED = "not the proved program"
 
-# the program beside these tools: with its wrapper, and as it lay before there was one
+# names of the program beside these tools: with its wrapper, and from before there was a wrapper
 BESIDE = ("life-program", "life")
 
 
 def program_beside(folder: str) -> str | None:
-    """The program in a folder of programs, where it is installed there."""
+    """Returns the path of the program in a folder of programs, or None if it is not installed there."""
     places = (os.path.join(folder, name) for name in BESIDE)
     return next((place for place in places if os.path.isfile(place) and os.access(place, os.X_OK)), None)
 
@@ -27,7 +27,7 @@ def program_beside(folder: str) -> str | None:
 # --- which program is asked, and whether it is the proved one ---
 
 class Program(NamedTuple):
-    """The program that is asked: the words that begin a run, its SHA-256, and why it isn't the proved program, or nothing."""
+    """The program that is run: the arguments that begin a run, its SHA-256, and why it is not the proved program, or ""."""
 
     words: tuple[str, ...]
     sum: str
@@ -39,19 +39,20 @@ class Program(NamedTuple):
         return not self.why
 
     def told(self) -> str:
-        """As a sheet names it: by the revision of what is installed, else by its SHA-256."""
+        """Returns the name of the program for a sheet: the revision of the installation if there is one, and otherwise the
+        SHA-256."""
         built = built_with()
         if self.why:
             return f"SHA-256 {self.sum or 'unknown'}, {UNPROVED}"
         return f"revision {built['revision']}" if built else f"SHA-256 {self.sum}"
 
     def facts(self) -> dict[str, str]:
-        """The facts of a page or a workbook, of which the second stands there only for a program that isn't the proved one."""
+        """Returns the facts for a page or a workbook; the second one is there only if the program is not the proved one."""
         return {"program": self.told(), **({UNPROVED: self.why} if self.why else {})}
 
 
 def clone() -> str:
-    """The folder of the clone that these tools lie in, where they aren't installed."""
+    """Returns the folder of the clone that contains these tools; it means nothing for installed tools."""
     folder = os.path.dirname(os.path.abspath(__file__))
     return os.path.dirname(os.path.dirname(os.path.dirname(folder)))
 
@@ -61,9 +62,9 @@ def program_of_clone() -> str:
 
 
 def noted_sum() -> str:
-    """The SHA-256 of the proved program that these tools belong to, or nothing where none is known.
+    """Returns the SHA-256 of the proved program that these tools belong to, or "" if none is known.
 
-    Installed tools carry it. In a clone `sh life prove` notes it; where nothing is noted, it is that of the clone's own program.
+    Installed tools contain it. In a clone, `sh life prove` notes it; if nothing is noted, it is that of the clone's own program.
     """
     built = built_with()
     if built:
@@ -81,7 +82,7 @@ def sum_of_program(path: str) -> str:
 
 
 def why_unproved(found: str) -> str:
-    """Why a program of this SHA-256 isn't the proved one of these tools, or nothing."""
+    """Returns why a program with this SHA-256 is not the proved program of these tools, or "" if it is."""
     noted = noted_sum()
     if found and found == noted:
         return ""
@@ -92,7 +93,7 @@ def why_unproved(found: str) -> str:
 
 @lru_cache(maxsize=None)
 def asked_by(words: tuple[str, ...], path: str) -> Program:
-    """The program of some words; where it isn't the proved one, it is reported once."""
+    """Returns the program that these arguments run. If it is not the proved one, a remark states that once."""
     if not os.path.isfile(path):
         return Program(words, "", f"there is no proved program {path}: sh life prove", path)
     found = sum_of_program(path)
@@ -103,7 +104,8 @@ def asked_by(words: tuple[str, ...], path: str) -> Program:
 
 
 def program_asked(given: str | None = None) -> Program:
-    """The program that is named, else by LIFE_PROGRAM, else the one beside these tools, else the clone's by its launcher."""
+    """Returns the program to run: the given one, else that of LIFE_PROGRAM, else the one beside these tools, else the clone's
+    launcher."""
     told = given or os.environ.get("LIFE_PROGRAM")
     if told:
         demand(os.path.isfile(told), f"{told} is no program")
@@ -118,12 +120,12 @@ def program_asked(given: str | None = None) -> Program:
 
 
 def life_command(given: str | None = None) -> list[str]:
-    """The words that begin a run of the program that is asked."""
+    """Returns the arguments that begin a run of the program."""
     return list(program_asked(given).words)
 
 
 def program_file() -> str:
-    """The program itself, where the clone's launcher would be asked to run it."""
+    """Returns the path of the program file, also if a run would start it through the clone's launcher."""
     command = life_command()
     if len(command) == 1:
         return command[0]
@@ -133,6 +135,6 @@ def program_file() -> str:
 
 
 def demand_as_installed() -> None:
-    """Installed tools do the work of many books by their own program alone: another one isn't taken in its place."""
+    """Raises Wrong if installed tools would run a program other than their own; for several books none may take its place."""
     is_that = built_with() is None or program_asked().is_proved
     demand(is_that, f"{program_file()} isn't the program that these tools were installed with")

@@ -1,4 +1,4 @@
-"""How far a tool is, on a terminal's standard error, for whatever takes more than a second."""
+"""Prints the progress of a tool on standard error if that is a terminal and the work takes more than a second."""
 from __future__ import annotations
 
 import sys
@@ -6,7 +6,7 @@ import time
 
 
 class Progress:
-    """A line that is written anew at most five times a second, and goes away at the end."""
+    """A line on the terminal that is updated at most five times a second and erased at the end."""
 
     def __init__(self, doing: str, whole: int | None = None) -> None:
         self.doing, self.whole = doing, whole
@@ -27,7 +27,7 @@ class Progress:
 
     @staticmethod
     def show(text: str) -> None:
-        """In place of the line before; a terminal obeys these bytes, which a text on standard error shows."""
+        """Replaces the line before. It writes to the buffer, because standard error would escape these control characters."""
         sys.stderr.flush()
         sys.stderr.buffer.write(f"\r\033[K{text}".encode())
         sys.stderr.buffer.flush()

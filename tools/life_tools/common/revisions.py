@@ -1,4 +1,4 @@
-"""Which revision of the tools makes a page or a workbook, and on which day."""
+"""Returns the revision of the tools that make a page or a workbook, and the time at which it is made."""
 from __future__ import annotations
 
 import datetime
@@ -10,7 +10,7 @@ import sys
 
 
 def built_with() -> dict[str, str] | None:
-    """What `life install` noted; nothing in a clone."""
+    """Returns what `life install` noted in these tools, or None in a clone."""
     try:
         noted = pkgutil.get_data("life_tools", "built.json")
     except OSError:
@@ -19,7 +19,7 @@ def built_with() -> dict[str, str] | None:
 
 
 def of_clone() -> str | None:
-    """The commit of the clone that these tools lie in, where git knows it."""
+    """Returns the commit of the clone that contains these tools, or None if git does not know it."""
     folder = os.path.dirname(os.path.realpath(sys.argv[0]))
     try:
         asked = subprocess.run(["git", "-C", folder, "describe", "--always", "--dirty"], stdout=subprocess.PIPE,
@@ -35,5 +35,5 @@ def revision() -> str:
 
 
 def made_now() -> str:
-    """The moment, as it is named on what is made."""
+    """Returns the present time in the form in which pages and workbooks show it."""
     return datetime.datetime.now(datetime.timezone.utc).strftime("%Y-%m-%d %H:%M UTC")

@@ -1,4 +1,4 @@
-"""Standard output and error of a tool: what a terminal shows of a stranger's bytes, and whether all was written."""
+"""Sets up a tool's standard output and error: it escapes foreign bytes on a terminal, and finds out whether all was written."""
 from __future__ import annotations
 
 import errno
@@ -13,41 +13,42 @@ from typing import Callable
 
 from life_tools.common.formats import Wrong
 
-# control characters but tabs and line ends, bytes that are no UTF-8, and marks that turn the direction of what follows
+# control characters except tabs and line ends, bytes that are not UTF-8, and marks that change the direction of the text after
+# them
 OBEYED = re.compile("[\0-\x08\x0b-\x1f\x7f-\x9f\u202a-\u202e\u2066-\u2069\udc80-\udcff]")
 DONE, REPORTED, NOT_DONE, STOPPED = 0, 1, 2, 130
-# so much of an error's text is shown
+# number of characters of an error's text that are shown
 MOST_LETTERS = 500
 
 
 def escaped(found: re.Match[str]) -> str:
     code = ord(found[0])
-    # a byte that is no UTF-8 is shown as that byte
+    # a byte that is not UTF-8 is shown as its hexadecimal value
     code -= 0xdc00 if code >= 0xdc80 else 0
     return f"\\x{code:02x}" if code < 0x100 else f"\\u{code:04x}"
 
 
 def visible(text: str) -> str:
-    """A text as a terminal may show it: what it would obey is escaped."""
+    """Returns a text that is safe to print on a terminal: characters that a terminal would obey are escaped."""
     return OBEYED.sub(escaped, text)
 
 
 class Shown(io.TextIOWrapper):
-    """A stream to a terminal, which shows what it would else obey."""
+    """A stream to a terminal that escapes the characters that the terminal would otherwise obey."""
 
     def write(self, text: str) -> int:
         return super().write(visible(text))
 
 
 class Closed(io.TextIOBase):
-    """Standard output that the caller has closed."""
+    """Stands for a standard output that the caller has closed; each write fails."""
 
     def write(self, text: str) -> int:
         raise OSError(errno.EBADF, "standard output is closed")
 
 
 def take_standard_streams() -> None:
-    """Standard output has a file's bytes as they are, whatever the locale; on a terminal they are shown."""
+    """Sets standard output to pass bytes through unchanged in any locale, or to escape them if it is a terminal."""
     if sys.stderr is None:
         sys.stderr = open(os.devnull, "w", encoding="utf-8")
     elif sys.stderr.isatty() and isinstance(sys.stderr, io.TextIOWrapper):
@@ -62,20 +63,20 @@ def take_standard_streams() -> None:
 
 
 def give_up_output() -> None:
-    """What is still held back is dropped, and can't fail once more at the end."""
+    """Discards the output that is still buffered, so that it cannot fail a second time when the tool ends."""
     if not isinstance(sys.stdout, Closed):
         os.dup2(os.open(os.devnull, os.O_WRONLY), 1)
 
 
 def has_reader_left() -> bool:
-    """Whether nobody reads the pipe any more that standard output is."""
+    """Returns whether standard output is a pipe that no process reads any more."""
     asked = select.poll()
     asked.register(1, 0)
     return any(event & select.POLLERR for _, event in asked.poll(0))
 
 
 def kept_traceback() -> str:
-    """The file that has the traceback of an error that nobody foresaw."""
+    """Writes the traceback of an unforeseen error to a file and returns the file's name."""
     with tempfile.NamedTemporaryFile("w", prefix="life-tools-", suffix=".traceback", delete=False, encoding="utf-8",
                                      errors="backslashreplace") as file:
         file.write(traceback.format_exc())
@@ -83,12 +84,12 @@ def kept_traceback() -> str:
 
 
 def said_of(error: OSError) -> str:
-    """A fault of the system in a line: of which file, and what."""
+    """Returns one line for a system error: the file, if the error names one, and the reason."""
     return f"{error.filename}: {error.strerror}" if error.filename else error.strerror or str(error)
 
 
 def status_of(run: Callable[[], int]) -> int:
-    """The status of a run, which argparse ends after help and of wrong arguments."""
+    """Returns the status of a run; argparse ends a run by SystemExit after printing help or for wrong arguments."""
     try:
         return run()
     except SystemExit as end:
@@ -96,7 +97,10 @@ def status_of(run: Callable[[], int]) -> int:
 
 
 def ended(name: str, run: Callable[[], int]) -> int:
-    """The status of a tool, whatever happens in it: what can't be done is one line on standard error, and 2."""
+    """Runs a tool and returns its status.
+
+    If something cannot be done, one line on standard error says so, and the status is 2.
+    """
     try:
         status = status_of(run)
         sys.stdout.flush()
@@ -104,7 +108,7 @@ def ended(name: str, run: Callable[[], int]) -> int:
     except BrokenPipeError as error:
         if not has_reader_left():
             return told(name, said_of(error), NOT_DONE)
-        # something is left out
+        # the reader of the pipe has left, so part of the output is missing
         give_up_output()
         return REPORTED
     except Wrong as wrong:
@@ -123,7 +127,7 @@ def ended(name: str, run: Callable[[], int]) -> int:
 
 
 def told(name: str, message: str, status: int) -> int:
-    """Says why a tool ends; what it has printed by then is written before, as far as that goes."""
+    """Prints why a tool ends and returns the status; output that is still buffered is written first, if that succeeds."""
     try:
         sys.stdout.flush()
     except OSError:

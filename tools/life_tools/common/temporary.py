@@ -1,4 +1,4 @@
-"""Folders for a while: in memory where it has room, each its run's own until that ends, however it does."""
+"""Makes temporary folders, in memory if it has the capacity. Each belongs to one run until that run ends, in whatever way."""
 from __future__ import annotations
 
 import fcntl
@@ -10,23 +10,25 @@ from contextlib import contextmanager
 from typing import Iterator
 
 MEMORY = "/dev/shm"
-# what postings to a copy may add to it
+# number of bytes that postings to a copy may add to it
 ROOM = 2**26
-# how the names of the private folders of windows begin
+# prefix of the names of the private folders of windows
 WINDOW = "life-window-"
-# so old is a folder whose run was killed; a younger one may not be held yet by whoever made it
+# age in seconds from which an unlocked folder counts as left by a killed run; the maker of a younger one may not have locked it
+# yet
 STALE_SECONDS = 60
 
 
 def place_to_post(size: int) -> str | None:
-    """Memory, where a posting waits for no disk, unless TMPDIR names another place or memory has no room for the copy."""
+    """Returns the folder in memory, where a posting waits for no disk, or None if TMPDIR is set or memory cannot take the
+    copy."""
     if os.environ.get("TMPDIR") or not os.access(MEMORY, os.W_OK | os.X_OK):
         return None
     return MEMORY if shutil.disk_usage(MEMORY).free >= size + ROOM else None
 
 
 def is_left(path: str) -> bool:
-    """Whether a folder was left by a run that is gone."""
+    """Returns whether a folder was left by a run that has ended."""
     if os.stat(path).st_uid != os.getuid() or time.time() - os.stat(path).st_mtime < STALE_SECONDS:
         return False
     handle = os.open(path, os.O_RDONLY | os.O_DIRECTORY)
@@ -40,20 +42,21 @@ def is_left(path: str) -> bool:
 
 
 def remove_left(place: str, prefix: str) -> None:
-    """Takes away what runs that are gone left in a place under names that begin so."""
+    """Removes the folders in `place` whose names begin with `prefix` if the runs that made them have ended."""
     for name in os.listdir(place):
         path = os.path.join(place, name)
         try:
             if name.startswith(prefix) and os.path.isdir(path) and not os.path.islink(path) and is_left(path):
                 shutil.rmtree(path, ignore_errors=True)
         except FileNotFoundError:
-            # somebody else took it away meanwhile
+            # another process removed it in the meantime
             continue
 
 
 @contextmanager
 def temporary_folder(size: int, prefix: str) -> Iterator[str]:
-    """A folder for so many bytes, the name of which begins so; what killed runs left of such is taken away."""
+    """Makes a temporary folder that can take `size` bytes, its name beginning with `prefix`; folders left by killed runs are
+    removed."""
     place = place_to_post(size) or tempfile.gettempdir()
     remove_left(place, prefix)
     # a window that was killed leaves its copy of the book
