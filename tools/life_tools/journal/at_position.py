@@ -1,6 +1,6 @@
-"""The book as it stood after its first postings: what the program prints of a copy of the journal's front.
+"""Runs the program on a copy of a prefix of the journal, and so prints the book as it was after its first postings.
 
-What is printed of the copy is proved as ever; the journal itself is only read.
+What the program prints about the copy is proved like any output; the journal itself is only read.
 """
 from __future__ import annotations
 
@@ -18,13 +18,13 @@ from life_tools.journal.blocks import Blocks, demanded
 from life_tools.journal.record_columns import close_gate, send
 from life_tools.journal.wholeness import tell_doubt
 
-# so many threads value, which change no byte of what is printed
+# number of threads for a valuation; it changes no byte of what is printed
 WORKERS = ("--workers", str(min(os.cpu_count() or 1, 4)))
 AT_ONCE = 1 << 18
 
 
 class BookAt:
-    """The copy: its folder, the position, and what the program prints of it."""
+    """The copy of a book: its folder, its position, and the program that runs on it."""
 
     def __init__(self, folder: str, position: int, life: Sequence[str]) -> None:
         self.folder, self.position, self.life = folder, position, life
@@ -36,17 +36,17 @@ class BookAt:
                         + (f": {said[0]}" if said else ""))
 
     def asks(self, *words: str) -> str:
-        """What the program prints on these words, which must end with status 0."""
+        """Returns what the program prints with these arguments; the run must end with status 0."""
         status, printed = run_in(self.folder, self.life, words)
         self.demand_well(status, words, printed)
         return printed
 
     def begins(self, *words: str) -> subprocess.Popen[bytes]:
-        """The program at work on these words, while something else is done."""
+        """Starts the program with these arguments and returns the process, so that other work can go on meanwhile."""
         return begun(self.folder, self.life, words)
 
     def parts(self, ran: subprocess.Popen[bytes], *words: str) -> Iterator[bytes]:
-        """What it prints, which must end with status 0, in parts."""
+        """Yields what the process prints, in parts; it must end with status 0."""
         assert ran.stdout
         part = ran.stdout.read(AT_ONCE)
         if len(part) < AT_ONCE:
@@ -57,12 +57,12 @@ class BookAt:
         self.demand_well(ran.wait(), words, "")
 
     def streams(self, *words: str) -> Iterator[bytes]:
-        """The same from the beginning on."""
+        """Starts the program with these arguments and yields what it prints, in parts."""
         with self.begins(*words) as ran:
             yield from self.parts(ran, *words)
 
     def alone(self, places: Sequence[int]) -> BookAt:
-        """A copy of the commands of these places alone."""
+        """Returns a copy that has only the commands at these places."""
         folder = os.path.join(self.folder, "alone")
         os.mkdir(folder)
         with open(os.path.join(self.folder, JOURNAL), "rb") as file, open(os.path.join(folder, JOURNAL), "wb") as copy:
@@ -75,7 +75,7 @@ class BookAt:
 
 
 def copied(path: str, position: int | None, to: str) -> Blocks:
-    """Copies a journal up to a position, or all of it, and looks at it meanwhile, while nobody posts."""
+    """Copies a journal, up to a position or whole, and checks the blocks of the original meanwhile; no run may use it then."""
     with reading(path) as file, ThreadPoolExecutor(1) as beside:
         size = os.fstat(file.fileno()).st_size if position is None else gate_of(position)
         sending = beside.submit(send, path, size, to)
@@ -89,7 +89,7 @@ def copied(path: str, position: int | None, to: str) -> Blocks:
 
 @contextlib.contextmanager
 def book_at(folder: str, position: int | None, bases: Sequence[str], life: str | None) -> Iterator[BookAt]:
-    """A copy of the book at a position (the newest if none is given), with these basis files and their tables."""
+    """Makes a copy of the book at a position (the newest if none is given), with these basis files and their tables."""
     path, command = os.path.join(folder, JOURNAL), life_command(life)
     with private_copy(folder, bases[0]) as desk:
         copy = os.path.join(desk, JOURNAL)

@@ -1,4 +1,4 @@
-"""A journal's file block by block: its records up to the first commit byte that isn't 1, never all of them in memory."""
+"""Reads a journal file block by block, up to the first commit byte that is not 1, without holding all records in memory."""
 from __future__ import annotations
 
 import io
@@ -10,20 +10,20 @@ from life_tools.common.formats import MOST_COMMANDS, Wrong, opened
 from life_tools.journal.file import (EMPTY, FIRST_GATE, RECORD_SIZE, BadJournal, Journal, counted, gate_of,
                                      is_unfinished_creation, open_gates, wrong_front)
 
-# so many records that they lie in a processor's cache while they are looked at
+# number of records that fit in a processor's cache while they are checked
 AT_ONCE = 1 << 13
 
 
 class Blocks:
-    """The blocks, which are gone through once; after the last one it is known how many records there are."""
+    """The blocks of a journal file. They can be read once; after the last one the number of records is known."""
 
     def __init__(self, file: io.BufferedIOBase) -> None:
         self.file = file
-        # of a file that grows meanwhile the length before the gates were looked at
+        # the file may grow meanwhile, so its length is taken before the commit bytes are read
         self.length = file.seek(0, os.SEEK_END)
         file.seek(0)
         self.front = file.read(len(EMPTY) + 1)
-        # the open gates up to the first other one, whether there is that one, and the bytes that were read
+        # the number of commit bytes that are 1 before the first other one, whether that one was found, and the bytes read
         self.open, self.is_ended, self.read = 0, False, len(self.front)
 
     def __iter__(self) -> Iterator[memoryview]:
@@ -40,31 +40,34 @@ class Blocks:
             yield memoryview(buffer)[:RECORD_SIZE * min(found, size // RECORD_SIZE)]
 
     def through(self) -> Blocks:
-        """The same, gone through for the gates alone."""
+        """Reads all blocks for their commit bytes alone, and returns this object."""
         for _ in self:
             pass
         return self
 
     @property
     def room(self) -> int:
-        """How many records the file has room for, as far as a journal may have them."""
+        """Returns how many records the file's length allows, but not many more than a journal may have."""
         return min(max(self.length - FIRST_GATE, 0) // RECORD_SIZE, MOST_COMMANDS + AT_ONCE)
 
     @property
     def seen(self) -> tuple[int, int] | None:
-        """The count and the length of a journal's file."""
+        """Returns the count and the length of the file, or None if it is not a journal."""
         count = self.count()
         return None if isinstance(count, Journal) else (count, self.length)
 
     def count(self) -> int | Journal:
-        """How many records precede the first commit byte that isn't 1, as `records_in` says it of a file's bytes."""
+        """Returns how many records precede the first commit byte that is not 1; `records_in` does the same for a file's bytes."""
         if is_unfinished_creation(self.front):
             return 0
         return wrong_front(self.front) or counted(self.open, self.is_ended, self.read)
 
 
 def demanded(blocks: Blocks, path: str) -> int:
-    """The count of a file that was gone through, which must be a journal; what its records spell isn't judged here."""
+    """Returns the count of a file that was read through and raises BadJournal if it is not a journal.
+
+    What the records encode is not judged here.
+    """
     count = blocks.count()
     if isinstance(count, Journal):
         raise BadJournal(path, count.refused, count.why)
@@ -73,7 +76,10 @@ def demanded(blocks: Blocks, path: str) -> int:
 
 @contextmanager
 def blocks_at(path: str) -> Iterator[Blocks]:
-    """Those of a file, which is read: a page of it that were mapped couldn't be dropped after a sync that failed."""
+    """Opens a file and gives its blocks.
+
+    The file is read and not mapped: a mapped page could not be dropped after a sync that failed.
+    """
     try:
         with opened(path) as file:
             yield Blocks(file)
@@ -82,7 +88,7 @@ def blocks_at(path: str) -> Iterator[Blocks]:
 
 
 def prefix_at(path: str, count: int) -> bytes:
-    """The bytes of a copy's first records, that nobody shortens; of one without records none."""
+    """Returns the bytes of a copy's first `count` records, or no bytes if there are none. The copy must not become shorter."""
     if not count:
         return b""
     with opened(path) as file:

@@ -1,4 +1,4 @@
-"""The books in a checkpoint in bulk: its policies as columns. `checkpoints` has the same policy by policy."""
+"""Reads the books of a checkpoint with the policies as columns; `checkpoints` reads the same policy by policy."""
 from __future__ import annotations
 
 from dataclasses import dataclass, fields
@@ -12,7 +12,7 @@ from life_tools.common.formats import MOST_CENTS, STATUSES, Wrong
 from life_tools.journal.records import WHOLE, is_issue_right
 from life_tools.journal.policy_columns import CLAIMED, ENDOWMENT, MATURED, TERM, Policies
 
-# a policy as it stands in the file
+# a policy as it is stored in the file
 POLICY = np.dtype([("number", ">u4"), ("plan", "u1"), ("age", "u1"), ("years", "u1"), ("paid", "u1"), ("status", "u1"),
                    ("idle", "u1", 3), ("issued", ">i4"), ("last", ">i4"), ("amount", ">u8"), ("premium", ">u8"),
                    ("outstanding", ">u8"), ("rest", ">u4")])
@@ -21,13 +21,13 @@ assert POLICY.itemsize == POLICY_SIZE
 
 @dataclass(frozen=True)
 class CheckpointColumns:
-    """The books after the first commands of a journal: the header, and the policies."""
+    """The books after the first commands of a journal: the header and the policies."""
 
     header: Header
     policies: Policies
 
     def is_of(self, book: Columns) -> bool:
-        """Whether these are the books of a journal, which has so many commands."""
+        """Returns whether these are the books of the journal after as many commands as the header says."""
         before = book.front(self.header.position)
         same = self.header.upgrade == before.upgrade and self.header.balances == before.balances
         return same and all(np.array_equal(getattr(self.policies, column.name), getattr(before.policies, column.name))
@@ -35,7 +35,7 @@ class CheckpointColumns:
 
 
 def is_sound(raw: Array, of: Policies) -> Array:
-    """Whether each policy is sound, by the fields of the file and by what they make of it."""
+    """Returns which policies are sound, by the fields of the file and by what follows from them."""
     owed = (of.status == CLAIMED) | (of.status == MATURED)
     sound: Array = (~raw["idle"].any(axis=1) & (raw["rest"] == 0) & (of.status >= 1) & (of.status <= len(STATUSES))
                     & is_issue_right(of.plan, of.age, of.years) & (of.number >= 1)
@@ -46,11 +46,11 @@ def is_sound(raw: Array, of: Policies) -> Array:
 
 
 def policies_of(raw: Array) -> Policies:
-    """The columns of policies, whatever stands in them."""
+    """Returns the columns of the policies, whatever the file holds."""
     number, plan, age, years, issued = (raw[name].astype(kind) for name, kind in (
         ("number", np.uint32), ("plan", np.uint8), ("age", np.uint8), ("years", np.uint8), ("issued", np.int32)))
     amount, premium, outstanding = (raw[name].astype(np.uint64).view(np.int64) for name in ("amount", "premium", "outstanding"))
-    # of one that isn't sound the cover may be anything
+    # a policy that is not sound may have any cover
     years_to_end = np.maximum(LAST_AGE - age.astype(np.int16), 0)
     cover = np.where((plan == TERM) | (plan == ENDOWMENT), np.minimum(years, LAST_AGE), years_to_end)
     end = anniversaries(np.clip(issued, FIRST, LAST), cover)
@@ -59,14 +59,14 @@ def policies_of(raw: Array) -> Policies:
 
 
 def first_again(number: Array) -> int | None:
-    """The first place of a number that stands before it, too."""
+    """Returns the first place whose number also stands at an earlier place, or None."""
     order = np.argsort(number, kind="stable")
     again = order[1:][number[order][1:] == number[order][:-1]]
     return int(again.min()) if len(again) else None
 
 
 def checkpoint_columns(data: bytes) -> CheckpointColumns:
-    """The books in a file, which has to be a checkpoint."""
+    """Returns the books in a file's bytes and raises Wrong if they are not a checkpoint."""
     header = header_in(data)
     raw = np.frombuffer(data, POLICY, header.policies, HEADER_SIZE) if header.policies else np.empty(0, POLICY)
     policies = policies_of(raw)

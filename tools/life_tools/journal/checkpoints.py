@@ -1,4 +1,4 @@
-"""The file `checkpoint.life`: which bytes are a checkpoint, and the books in them (docs/reference/journal.md)."""
+"""Reads and writes the file `checkpoint.life`: which bytes are a checkpoint, and the books in it (docs/reference/journal.md)."""
 from __future__ import annotations
 
 import datetime
@@ -15,7 +15,7 @@ MOST_CENTS_A_COMMAND = 4 * 10**10
 
 
 class Header(NamedTuple):
-    """How many commands, the place of the upgrade or 0, how many policies, and the balances."""
+    """The number of commands, the position of the upgrade or 0, the number of policies, and the balances in cents."""
 
     position: int
     upgrade: int
@@ -25,7 +25,7 @@ class Header(NamedTuple):
 
 @dataclass(frozen=True)
 class Checkpoint:
-    """The books after the first commands of a journal: how many, the place of the upgrade or 0, balances, policies."""
+    """The books after a journal's first commands: their number, the position of the upgrade or 0, the balances, the policies."""
 
     position: int
     upgrade: int
@@ -48,7 +48,7 @@ def day_of(data: bytes) -> datetime.date:
 
 
 def policy_in(data: bytes) -> Policy:
-    """The policy that these 48 bytes spell, which has to be sound."""
+    """Returns the policy that these 48 bytes encode and raises Wrong if it is not sound."""
     demand(not any(data[9:12]) and not any(data[44:48]), "a byte between its fields isn't 0")
     demand(data[4] in PLANS and 1 <= data[8] <= len(STATUSES), f"its plan is {data[4]}, its status {data[8]}")
     policy = Policy(number_of(data[:4]), PLANS[data[4]], data[5], data[6], number_of(data[20:28]), number_of(data[28:36]),
@@ -63,7 +63,7 @@ def policy_in(data: bytes) -> Policy:
 
 
 def header_in(data: bytes) -> Header:
-    """The header of a file, which has to be a checkpoint as far as that shows."""
+    """Returns a checkpoint's header and raises Wrong if the bytes cannot be a checkpoint; the policies are not read."""
     demand(data[:1] == bytes([OPEN]), "byte 0, its commit byte, isn't 1")
     demand(len(data) >= HEADER_SIZE, f"it has {len(data)} bytes")
     demand(data[1:17] == HEADER, "its header is another one")
@@ -79,7 +79,7 @@ def header_in(data: bytes) -> Header:
 
 
 def checkpoint_in(data: bytes) -> Checkpoint:
-    """The books in a file, which has to be a checkpoint. What follows the last policy has no meaning."""
+    """Returns the books in a file's bytes, which must be a checkpoint. Bytes after the last policy have no meaning."""
     header = header_in(data)
     return Checkpoint(header.position, header.upgrade, header.balances, list(policies_in(data, header.policies)))
 
@@ -98,13 +98,13 @@ def policies_in(data: bytes, many: int) -> Iterable[Policy]:
 
 
 def checkpoint_of(commands: Iterable[Command]) -> Checkpoint:
-    """The checkpoint of a journal of these commands."""
+    """Returns the checkpoint of a journal that has these commands."""
     book = Book(commands)
     return Checkpoint(len(book.commands), book.upgrade, balances_of(book.commands), list(book.policies.values()))
 
 
 def bytes_of_checkpoint(checkpoint: Checkpoint) -> bytes:
-    """The file that the program writes."""
+    """Returns the bytes of the file that the program writes."""
     made = bytearray(bytes([OPEN]) + HEADER)
     for number in (checkpoint.position, checkpoint.upgrade, len(checkpoint.policies)):
         made += number.to_bytes(4, "big")

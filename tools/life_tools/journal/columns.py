@@ -1,7 +1,7 @@
-"""A journal in bulk: its commands, its policies and what was booked as columns of numpy, judged by the rules.
+"""Reads a journal in bulk: its commands, its policies and its bookings are numpy columns, and the rules judge them.
 
-`columns_at` is to a file what `journals.journal_at` is, a hundred times as quick, and refuses the same files with the same
-words; an object is made only of what is asked for. Positions count from 1, places in columns from 0.
+`columns_at` reads a file as `opening.journal_at` does, about a hundred times as fast, and refuses the same files with the same
+messages. An object is made only for a command or policy that is asked for. Positions count from 1, places in columns from 0.
 """
 from __future__ import annotations
 
@@ -22,10 +22,10 @@ from life_tools.rules.policies import ACCOUNTS
 
 @dataclass(frozen=True)
 class Columns:
-    """A book: its records; its policies, in order of issue, as they are at its end; and of each record more.
+    """A book: its records; its policies in order of issue, as they are at its end; and two columns more for each record.
 
-    `place` is that of its policy among the policies, or -1 of an upgrade; `booked` are the cents that it moves between two
-    accounts, by `balances`. The position of the upgrade is 0 where there is none.
+    `place` is the place of the record's policy among the policies, or -1 for an upgrade. `booked` is the amount in cents that the
+    record moves between two accounts, from which `balances` is computed. `upgrade` is the position of the upgrade, or 0.
     """
 
     records: Records
@@ -39,7 +39,7 @@ class Columns:
         return len(self.records)
 
     def front(self, count: int) -> Columns:
-        """The book as it was after its first commands."""
+        """Returns the book after its first `count` commands."""
         demand(0 <= count <= self.count, f"there are {self.count} commands, and not {count}")
         return self if count == self.count else book_of(Replay(self.records.front(count)))
 
@@ -66,7 +66,7 @@ def why_misspelled(body: bytes) -> str:
 
 
 def judged_by(blocks: Blocks) -> Columns | Journal:
-    """What the program makes of a file: a book; or, as `read_journal` has it, a refusal with its reason."""
+    """Returns the book of a file; or, like `read_journal`, the program's refusal with its reason."""
     records, misspelled = records_of(blocks)
     count = blocks.count()
     if isinstance(count, Journal):
@@ -80,12 +80,12 @@ def judged_by(blocks: Blocks) -> Columns | Journal:
 
 
 def judged(data: bytes) -> Columns | Journal:
-    """The same of a file's bytes."""
+    """Does the same for the bytes of a file."""
     return judged_by(Blocks(io.BytesIO(data)))
 
 
 def taken(found: Columns | Journal, path: str, at: int | None = None) -> Columns:
-    """The book that was found in a file, or that of its first commands, of which it must have so many."""
+    """Returns the book found in a file, or the book after its first `at` commands; raises Wrong if the file has neither."""
     if isinstance(found, Journal):
         raise BadJournal(path, found.refused, found.why)
     demand(at is None or at <= found.count, f"{path} has {found.count} commands, and not {at}")
@@ -93,12 +93,12 @@ def taken(found: Columns | Journal, path: str, at: int | None = None) -> Columns
 
 
 def columns_in(data: bytes, path: str) -> Columns:
-    """The book of a file's bytes, which must be a journal or an unfinished creation of one."""
+    """Returns the book of a file's bytes, which must be a journal or the unfinished creation of one."""
     return taken(judged(data), path)
 
 
 def looked_at(path: str) -> tuple[Columns | Journal, Blocks]:
-    """The same of a file of which nothing shows to be gone, with what was seen of it."""
+    """Returns what `judged_by` makes of a file, with its blocks; raises Damaged if commands of the file are known to be gone."""
     with blocks_at(path) as blocks:
         found = judged_by(blocks)
     if blocks.seen:
@@ -107,5 +107,5 @@ def looked_at(path: str) -> tuple[Columns | Journal, Blocks]:
 
 
 def columns_at(path: str, at: int | None = None) -> Columns:
-    """The same of a journal's file."""
+    """Returns the book of a journal's file, or the book after its first `at` commands."""
     return taken(looked_at(path)[0], path, at)

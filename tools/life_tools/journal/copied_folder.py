@@ -1,4 +1,4 @@
-"""A copy of a folder's journal and basis, on which the program may run whatever it likes."""
+"""Copies the journal and the basis of a folder, so that the program can run anything on the copy."""
 from __future__ import annotations
 
 import fcntl
@@ -14,13 +14,13 @@ from life_tools.common.formats import Wrong, bytes_of, opened, rows_in
 from life_tools.tables.basis import NAME
 
 JOURNAL = "journal.life"
-# how the names of folders with copies begin
+# prefix of the names of the folders that hold copies
 PREFIX = "life-desk-"
 
 
 @contextmanager
 def reading(path: str) -> Iterator[io.BufferedReader]:
-    """A journal's file, which no run has meanwhile."""
+    """Opens a journal's file under a shared lock, so that no run changes it meanwhile."""
     with opened(path) as file:
         try:
             fcntl.flock(file, fcntl.LOCK_SH | fcntl.LOCK_NB)
@@ -35,7 +35,7 @@ def written(path: str, data: bytes) -> None:
 
 
 def basis_files(folder: str, name: str) -> list[str]:
-    """A basis file and each table that a row of it names, as far as they are there."""
+    """Returns the names of a basis file and of each table that its rows name, if these files exist."""
     names = [name]
     if os.path.isfile(os.path.join(folder, name)):
         names += [row.fields[1] for row in rows_in(bytes_of(os.path.join(folder, name))) if len(row.fields) > 1]
@@ -50,7 +50,7 @@ def copy_basis(folder: str, name: str, to: str) -> None:
 
 @contextmanager
 def private_copy(folder: str, basis: str) -> Iterator[str]:
-    """A folder for a while, with the folder's basis, and with room for a copy of its journal."""
+    """Makes a temporary folder with the folder's basis and with capacity for a copy of its journal."""
     path = os.path.join(folder, JOURNAL)
     with temporary_folder(os.path.getsize(path) if os.path.exists(path) else 0, PREFIX) as desk:
         copy_basis(folder, basis, desk)
@@ -59,7 +59,7 @@ def private_copy(folder: str, basis: str) -> Iterator[str]:
 
 def begun(desk: str, life: Sequence[str], words: Sequence[str],
           given: IO[bytes] | int = subprocess.DEVNULL) -> subprocess.Popen[bytes]:
-    """A run of the program in a folder, which goes on meanwhile."""
+    """Starts a run of the program in a folder and returns the process without waiting for it."""
     try:
         return subprocess.Popen([*life, *words], cwd=desk, stdin=given, stdout=subprocess.PIPE)
     except OSError as error:
@@ -67,7 +67,7 @@ def begun(desk: str, life: Sequence[str], words: Sequence[str],
 
 
 def run_in(desk: str, life: Sequence[str], words: Sequence[str]) -> tuple[int, str]:
-    """The status of a run of the program in a folder, and what it printed."""
+    """Runs the program in a folder and returns its status and what it printed."""
     with begun(desk, life, words) as ran:
         return ended(ran)
 

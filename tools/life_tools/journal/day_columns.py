@@ -1,4 +1,4 @@
-"""Days as columns: numbers of days from 1970-01-01, their years, their anniversaries and their texts."""
+"""Computes with columns of days, which are numbers of days from 1970-01-01: their years, anniversaries and texts."""
 from __future__ import annotations
 
 from functools import lru_cache
@@ -12,16 +12,16 @@ __all__ = ["FIRST", "FIRST_YEAR", "LAST", "LAST_YEAR", "NEVER", "anniversaries",
 
 FIRST, LAST = number_at(FIRST_DAY), number_at(LAST_DAY)
 FIRST_YEAR = FIRST_DAY.year
-# no anniversary of a day of the calendar lies after it
+# no anniversary of a day of the calendar is in a later year
 LAST_YEAR = 2400
-# the place of 29 February in a leap year
+# the place of 29 February in a leap year, from 0
 LEAP_DAY = 31 + 28
-# after every day that a policy has
+# a day later than every day that a policy has
 NEVER = np.int32(2**31 - 1)
 
 
 def calendar() -> tuple[Array, Array, Array, Array]:
-    """Of each year its first day and whether it is a leap year; of each day its year and its place in a leap year."""
+    """Returns for each year its first day and whether it is a leap year; for each day its year and its place in a leap year."""
     starts = np.arange(f"{FIRST_YEAR}", f"{LAST_YEAR + 2}", dtype="datetime64[Y]").astype("datetime64[D]").astype(np.int32)
     leap = np.diff(starts) == 366
     days = np.arange(starts[0], starts[-1], dtype=np.int32)
@@ -32,27 +32,27 @@ def calendar() -> tuple[Array, Array, Array, Array]:
 
 
 STARTS, IS_LEAP, YEAR, PLACE = calendar()
-# of each day twice the place of its year, and one more from 29 February on; by these what is added to a day's place in a leap
-# year for its number
+# TURN is, for each day, twice the index of its year, plus one from 29 February on. BASE gives for each value of TURN what is
+# added to the day's place in a leap year to get the day's number.
 TURN = 2 * YEAR + (PLACE >= LEAP_DAY)
 BASE = np.column_stack([STARTS, STARTS - ~IS_LEAP]).ravel()
 
 
 def years_at(days: Array) -> Array:
-    """The years of days of the calendar."""
+    """Returns the years of days of the calendar."""
     years: Array = YEAR[days - STARTS[0]] + FIRST_YEAR
     return years
 
 
 def anniversaries(days: Array, years: Array | int) -> Array:
-    """So many years later; of a 29 February the 28th in a year that has none."""
+    """Returns the anniversaries after so many years; for a 29 February it is the 28th in a year that is not a leap year."""
     at = (days - STARTS[0]).astype(np.intp)
     found: Array = BASE[TURN[at] + 2 * years] + PLACE[at]
     return found
 
 
 def completed_years(issued: Array, on: Array | int) -> Array:
-    """The whole years from days to later ones."""
+    """Returns the number of whole years from days to later days."""
     years = YEAR[on - STARTS[0]] - YEAR[issued - STARTS[0]]
     whole: Array = years - (anniversaries(issued, years) > on)
     return whole
@@ -66,7 +66,7 @@ def all_texts() -> Array:
 
 
 def texts_at(days: Array) -> list[str]:
-    """The texts YYYY-MM-DD of days of the calendar."""
+    """Returns the texts YYYY-MM-DD of days of the calendar."""
     texts: list[str] = all_texts()[days - STARTS[0]].tolist()
     return texts
 

@@ -1,4 +1,7 @@
-"""The file `journal.life`: what the program makes of any bytes, and the commands in them (docs/reference/journal.md)."""
+"""Reads and writes the file `journal.life`: what the program makes of any bytes, and the commands in it.
+
+docs/reference/journal.md has the layout. The code calls the commit byte before each record its gate.
+"""
 from __future__ import annotations
 
 from dataclasses import dataclass, field
@@ -18,7 +21,7 @@ EMPTY = bytes([OPEN]) + HEADER + bytes(1)
 
 @dataclass
 class Journal:
-    """What a file is: its book; or the line with which the program refuses it, and why."""
+    """What a file is: its book, or the line with which the program refuses it and the reason."""
 
     book: Book = field(default_factory=Book)
     is_unfinished: bool = False
@@ -31,7 +34,7 @@ class Journal:
 
 
 class BadJournal(Wrong):
-    """A file is no journal; the line is the program's answer."""
+    """The file is not a journal; `line` is what the program prints about it."""
 
     def __init__(self, path: str, line: str, why: str) -> None:
         super().__init__(f"{path}: {line}: {why}")
@@ -39,14 +42,14 @@ class BadJournal(Wrong):
 
 
 def is_unfinished_creation(data: bytes) -> bool:
-    """Whether a crash in the creation of a journal may have left this; the program goes on with the creation."""
+    """Returns whether a crash while a journal was created may have left these bytes; the program then completes the creation."""
     if len(data) < 2 or (len(data) <= len(EMPTY) and data[0] == 0):
         return True
     return len(data) == len(EMPTY) and data[1:FIRST_GATE] == HEADER and data[0] != OPEN and data[FIRST_GATE] != OPEN
 
 
 def gate_of(record: int) -> int:
-    """The place of the gate before a record, counted from 0."""
+    """Returns the place of the commit byte before a record; records count from 0 here."""
     return FIRST_GATE + RECORD_SIZE * record
 
 
@@ -55,7 +58,7 @@ def bad_record(record: int, why: str, book: Book | None = None) -> Journal:
 
 
 def read_journal(data: bytes, into: Book | None = None) -> Journal:
-    """What the program makes of a file's bytes; its commands go into a new book, or into an empty one that is given."""
+    """Returns what the program makes of a file's bytes. The commands go into a new book, or into the empty book `into`."""
     book = Book() if into is None else into
     if is_unfinished_creation(data):
         return Journal(book, is_unfinished=True)
@@ -64,13 +67,16 @@ def read_journal(data: bytes, into: Book | None = None) -> Journal:
 
 
 def open_gates(gates: bytes | bytearray) -> int:
-    """How many gates precede the first one that isn't open."""
+    """Returns how many commit bytes precede the first one that is not 1."""
     is_all = gates == bytes([OPEN]) * len(gates)
     return len(gates) if is_all else len(gates) - len(gates.lstrip(bytes([OPEN])))
 
 
 def wrong_front(front: bytes) -> Journal | None:
-    """The refusal of a file that begins so, with as many bytes as an empty journal where it has them; none of a journal."""
+    """Returns the refusal of a file that begins with these bytes, or None if a journal may begin so.
+
+    `front` has as many bytes as an empty journal, or fewer if the file is shorter.
+    """
     if len(front) < len(EMPTY):
         return Journal(refused="badjournal,notajournal", why=f"it has {len(front)} bytes, and an empty journal has {len(EMPTY)}")
     if front[:FIRST_GATE] != EMPTY[:FIRST_GATE]:
@@ -79,7 +85,7 @@ def wrong_front(front: bytes) -> Journal | None:
 
 
 def counted(count: int, is_ended: bool, length: int) -> int | Journal:
-    """So many records with open gates, where another gate ends them; or the refusal of a file of that length."""
+    """Returns `count` if a commit byte that is not 1 ends the records; otherwise the refusal of a file of this length."""
     if count > MOST_COMMANDS:
         return bad_record(MOST_COMMANDS, "a journal has at most so many")
     if not is_ended:
@@ -88,7 +94,7 @@ def counted(count: int, is_ended: bool, length: int) -> int | Journal:
 
 
 def records_in(data: bytes) -> int | Journal:
-    """How many records precede the first commit byte that isn't 1; or the refusal of what is no journal."""
+    """Returns how many records precede the first commit byte that is not 1, or the refusal of bytes that are not a journal."""
     wrong = wrong_front(data[:len(EMPTY)])
     if wrong:
         return wrong
@@ -98,7 +104,10 @@ def records_in(data: bytes) -> int | Journal:
 
 
 def count_of(data: bytes, path: str) -> int:
-    """How many records stand in a file's bytes, which must be a journal; what they spell isn't judged here."""
+    """Returns how many records a file's bytes hold, and raises BadJournal if they are not a journal.
+
+    What the records encode is not judged here.
+    """
     count = 0 if is_unfinished_creation(data) else records_in(data)
     if isinstance(count, Journal):
         raise BadJournal(path, count.refused, count.why)
@@ -106,7 +115,7 @@ def count_of(data: bytes, path: str) -> int:
 
 
 def replayed(data: bytes, count: int, book: Book) -> Journal:
-    """The journal of so many records, each of which has to spell a command that can follow."""
+    """Returns the journal of so many records, or the refusal at the first record that encodes no command that can follow."""
     progress = Progress("reading the journal", count)
     for record in range(count):
         try:
@@ -120,5 +129,5 @@ def replayed(data: bytes, count: int, book: Book) -> Journal:
 
 
 def file_of(commands: Iterable[Command]) -> bytes:
-    """The bytes of a journal of these commands."""
+    """Returns the bytes of a journal that has these commands."""
     return EMPTY[:FIRST_GATE] + b"".join(bytes([OPEN]) + body_of(command) for command in commands) + bytes(1)

@@ -1,8 +1,8 @@
-"""A journal's file as its disk has it, and not as the system keeps it in memory.
+"""Makes sure that a journal's file is read from its disk and not from the system's cache.
 
-Linux marks pages whose write to the disk failed as clean: a later sync succeeds without writing them, and a read returns what
-the disk never received. So the system's copies of both ends of the file are dropped after a sync that succeeded, and all copies
-after one that failed. `life` drops all of them before it runs the program.
+Linux marks pages whose write to the disk failed as clean: a later sync succeeds without writing them, and a read returns what the
+disk never received. Therefore the cached pages of both ends of the file are dropped after a sync that succeeded, and all cached
+pages after a sync that failed. `life` drops all of them before it runs the program.
 """
 from __future__ import annotations
 
@@ -10,19 +10,19 @@ import os
 
 from life_tools.common.formats import Wrong, opened
 
-# the system keeps its copies of a file in pieces of up to so many bytes, and drops only whole ones
+# the system caches a file in pieces of up to so many bytes, and drops only whole pieces
 LARGEST_COPY = 1 << 21
 
 
 def drop_copies(handle: int, length: int) -> None:
-    """Has the system read a file's two ends from the disk anew."""
+    """Makes the system read the two ends of a file from the disk again."""
     last = max(length - LARGEST_COPY, 0)
     os.posix_fadvise(handle, 0, LARGEST_COPY, os.POSIX_FADV_DONTNEED)
     os.posix_fadvise(handle, last - last % LARGEST_COPY, 0, os.POSIX_FADV_DONTNEED)
 
 
 def sync_and_drop(handle: int, path: str, length: int) -> None:
-    """Makes a file safe; where that fails, nothing that the system keeps of it is believed any more."""
+    """Syncs a file. If the sync fails, everything that the system has cached of the file is dropped, and Wrong is raised."""
     try:
         os.fsync(handle)
     except OSError as error:
@@ -33,6 +33,6 @@ def sync_and_drop(handle: int, path: str, length: int) -> None:
 
 
 def made_safe(path: str) -> None:
-    """What is read of this journal from now on is on its disk."""
+    """Syncs a journal and drops cached pages, so that what is read of it from now on is on its disk."""
     with opened(path) as file:
         sync_and_drop(file.fileno(), path, os.fstat(file.fileno()).st_size)

@@ -1,4 +1,4 @@
-"""A journal's file as a book of commands, each judged by the rules anew; of a damaged one nothing is shown."""
+"""Opens a journal's file as a book of commands, each judged by the rules again; nothing is shown of a damaged file."""
 from __future__ import annotations
 
 import io
@@ -11,7 +11,10 @@ from life_tools.rules.policies import Book
 
 
 def journal_at(path: str) -> Journal:
-    """The journal of a file, which must be one or an unfinished creation of one, and of which nothing shows to be gone."""
+    """Returns the journal of a file.
+
+    The file must be a journal or the unfinished creation of one, and no command may be known to be gone from it.
+    """
     data = bytes_of(path)
     journal = read_journal(data)
     if journal.refused:
@@ -21,7 +24,7 @@ def journal_at(path: str) -> Journal:
 
 
 def book_at(path: str, position: str) -> Book:
-    """The book at a position of a file's journal, of which it has to be one."""
+    """Returns the book at a position of a journal's file, and raises Wrong if the journal has no such position."""
     commands = journal_at(path).commands
     count = number_of(position, 0, len(commands))
     if count is None:

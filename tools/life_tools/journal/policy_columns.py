@@ -1,7 +1,7 @@
-"""Policies as columns, and the rules over many of them at once: each decides a command of a policy of its own.
+"""Applies the rules to columns of policies at once; each row decides one command on a policy of its own.
 
-`rules/policies.py` has the rules of one command; here stand the same over columns, and a check compares both over drawn
-and damaged journals. Of a refusal only that there is one is said here: its reason is given by `policies.decide`.
+`rules/policies.py` has the rules for a single command. The same rules stand here over columns, and a test compares the two on
+drawn and damaged journals. This module only finds that a command is refused; `policies.decide` gives the reason.
 """
 from __future__ import annotations
 
@@ -16,7 +16,7 @@ from life_tools.journal.records import ALTER, CLAIM, LAPSE, MATURE, PAIDUP, PREM
 from life_tools.common.arrays import Array, Cents, np
 from life_tools.rules.policies import EARLY, GRACE, REINSTATEMENT_ANNIVERSARIES, Policy
 
-# the codes of statuses, as in a checkpoint
+# the codes of the statuses, as in a checkpoint
 INFORCE, LAPSED, CLAIMED, MATURED, EXPIRED, SETTLED, MADE_PAIDUP = range(1, len(STATUSES) + 1)
 TERM, ENDOWMENT = PLAN_CODES["term"], PLAN_CODES["endowment"]
 CODE_OF_STATUS = {status: code for code, status in enumerate(STATUSES, 1)}
@@ -24,18 +24,21 @@ CODE_OF_STATUS = {status: code for code, status in enumerate(STATUSES, 1)}
 
 @dataclass(frozen=True)
 class Policies:
-    """Policies in order of issue, by their place from 0: plans and statuses by codes, days from 1970-01-01, cents."""
+    """Policies in order of issue, at places from 0.
+
+    Plans and statuses are codes, days count from 1970-01-01, amounts are in cents.
+    """
 
     number: Array
     plan: Array
     age: Array
     years: Array
     issued: Array
-    # the years of cover, the yearly premiums, and the day on which the cover ends
+    # the years of cover, the number of yearly premiums, and the day on which the cover ends
     cover: Array
     payments: Array
     end: Array
-    # what commands change
+    # the columns that commands change
     amount: Cents
     premium: Cents
     last: Array
@@ -50,13 +53,13 @@ class Policies:
         return Policies(*(getattr(self, column.name)[places] for column in fields(self)))
 
     def policy(self, place: int) -> Policy:
-        """The policy of a place, as an object."""
+        """Returns the policy at a place as an object."""
         return Policy(int(self.number[place]), PLANS[int(self.plan[place])], int(self.age[place]), int(self.years[place]),
                       int(self.amount[place]), int(self.premium[place]), day_at(self.issued[place]), day_at(self.last[place]),
                       STATUSES[int(self.status[place]) - 1], int(self.paid[place]), int(self.outstanding[place]))
 
     def put(self, place: int, policy: Policy) -> None:
-        """What commands have made of the policy of a place."""
+        """Writes the policy of a place back after its commands."""
         self.amount[place], self.premium[place] = policy.amount, policy.premium
         self.last[place], self.status[place] = number_at(policy.last), CODE_OF_STATUS[policy.status]
         self.paid[place], self.outstanding[place] = policy.paid, policy.outstanding
@@ -67,7 +70,7 @@ class Policies:
 
 
 class Chosen:
-    """The policies of some places: of their columns those that are asked for are taken, once."""
+    """The policies at some places. A column is selected when it is first asked for, and only then."""
 
     def __init__(self, policies: Policies, places: Array) -> None:
         self.policies, self.places = policies, places
@@ -86,13 +89,14 @@ Some = Union[Policies, Chosen]
 
 
 def due_of(of: Some) -> Array:
-    """The day on which the next premium is due, or NEVER where all are paid or the policy is paid up."""
+    """Returns the day on which the next premium is due, or NEVER if all are paid or the policy is paid up."""
     none = (of.status == MADE_PAIDUP) | (of.paid >= of.payments)
     return np.where(none, NEVER, anniversaries(of.issued, np.where(none, 0, of.paid)))
 
 
 class IssueTerms(NamedTuple):
-    """What an issue says of policies, and what follows of it: the years of cover, the yearly premiums, the end of the cover."""
+    """The terms of issues, and what follows from them: the years of cover, the number of yearly premiums, the end of the
+    cover."""
 
     plan: Array
     age: Array
@@ -110,7 +114,7 @@ def issue_terms(plan: Array, age: Array, years: Array, issued: Array) -> IssueTe
 
 
 def issued_by(records: Records, places: Array) -> Policies:
-    """The policies as these issues leave them."""
+    """Returns the policies as the issues at these places leave them."""
     terms = issue_terms(*(column[places] for column in (records.plan, records.age, records.years, records.day)))
     count = len(places)
     return Policies(records.number[places], *terms, records.amount[places], records.premium[places], terms.issued.copy(),
@@ -118,7 +122,7 @@ def issued_by(records: Records, places: Array) -> Policies:
 
 
 def policies_in(of: Sequence[Policy]) -> Policies:
-    """Policies that are there as objects."""
+    """Returns the columns of policies that are given as objects."""
     def column(name: str, kind: type) -> Array:
         return np.array([getattr(policy, name) for policy in of], kind)
 
@@ -131,20 +135,20 @@ def policies_in(of: Sequence[Policy]) -> Policies:
 
 
 def together(one: Policies, other: Policies) -> Policies:
-    """The policies of both, one after the other."""
+    """Returns the policies of `one` followed by those of `other`."""
     return Policies(*(np.concatenate([getattr(one, column.name), getattr(other, column.name)]) for column in fields(one)))
 
 
 # --- the rules, of policies and of a command on each ---
 
 def missed(of: Some, day: Array) -> Array:
-    """How many premiums that weren't paid were due up to the day."""
+    """Returns how many unpaid premiums fell due up to and including the day."""
     return np.maximum(np.minimum(completed_years(of.issued, day) + 1, of.payments) - of.paid, 0)
 
 
 def is_in_grace(of: Some, day: Array) -> Array:
-    """Whether a premium can still be paid, as far as one is due."""
-    # a premium that is due never is after each day
+    """Returns whether the days of grace of the next premium, if there is one, are not over."""
+    # NEVER, the due day if no premium is due, is later than each day
     found: Array = day - GRACE.days <= of.due
     return found
 
@@ -201,13 +205,13 @@ RIGHT = {PREMIUM: is_premium_right, ALTER: is_alter_right, LAPSE: is_lapse_right
 
 
 def is_accepted(of: Some, kind: int, day: Array, amount: Cents) -> Array:
-    """Whether the rules take a command of a kind, which is neither an issue nor an upgrade, on each of the policies."""
+    """Returns for each policy whether the rules accept a command of this kind, which is neither an issue nor an upgrade."""
     found: Array = (day >= of.last) & RIGHT[kind](of, day, amount)
     return found
 
 
 def change(policies: Policies, places: Array, of: Some, kind: int, day: Array, amount: Cents, premium: Cents) -> None:
-    """What accepted commands of a kind make of the policies of these places, which are `of`."""
+    """Writes the effect of accepted commands of one kind into the policies at these places; `of` has their present columns."""
     policies.last[places] = day
     if kind == PREMIUM:
         policies.paid[places] = of.paid + 1

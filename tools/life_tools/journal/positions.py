@@ -1,11 +1,11 @@
-"""The positions of a day, where commands of different policies lie in another order than their days.
+"""Finds the positions of a day in a journal whose commands are not in the order of their days.
 
-The days of one policy's commands never fall, but those of different policies may stand in any order. So no position need
-have just the commands up to a day. *The first* position is the last one up to which every command is of the day or of one
-before; it lacks commands of such days that were posted after one of a later day. *The last* is that of the last command
-of the day or of one before; it has commands of later days among its own.
+The days of one policy's commands never decrease, but the commands of different policies may have been posted in any order.
+Therefore there may be no position that has exactly the commands up to a day. *The first* position is the last one up to which
+every command is of the day or an earlier one; it lacks the commands of such days that were posted after a command of a later day.
+*The last* position is that of the last command of the day or an earlier one; it includes commands of later days.
 
-What reads a journal hands in the days as numbers, in the order of the commands; an upgrade, which has none, may have any.
+The caller gives the days as numbers in the order of the commands; the value for an upgrade, which has no day, is ignored.
 """
 from __future__ import annotations
 
@@ -16,7 +16,7 @@ from life_tools.common.arrays import Array, np
 
 
 class OnDay(NamedTuple):
-    """The first position of a day and what it lacks, the last one and what it has of later days: positions from 1 on."""
+    """The first position of a day and the positions it lacks; the last one and the positions before it that are of later days."""
 
     first: int
     last: int
@@ -27,11 +27,11 @@ class OnDay(NamedTuple):
         return self.last if is_last else self.first
 
     def astray(self, is_last: bool) -> list[int]:
-        """What is on the wrong side of the position."""
+        """Returns the positions of the commands that this position wrongly lacks or wrongly includes."""
         return self.ahead if is_last else self.lacked
 
     def told(self, is_last: bool, day: str) -> str:
-        """What the commands on the wrong side are."""
+        """Returns a sentence that says how many commands the position wrongly lacks or includes."""
         many = len(self.astray(is_last))
         if is_last:
             return f"position {self.last} has commands of days after {day}: {many}"
@@ -39,7 +39,7 @@ class OnDay(NamedTuple):
 
 
 def on_day(days: Union[Array, array[int]], day: int, upgrade: int = 0) -> OnDay:
-    """How the commands lie about a day; the upgrade's position is reported, or 0."""
+    """Returns the first and the last position of a day; `upgrade` is the position of the upgrade, or 0."""
     later = np.asarray(days) > day
     before = ~later
     if upgrade:

@@ -1,4 +1,4 @@
-"""The columns of a journal's records: of each command its kind, its policy's number and its day, without an object."""
+"""Reads the records of a journal as columns without an object for each: kinds, policy numbers and days."""
 from __future__ import annotations
 
 import hashlib
@@ -17,19 +17,19 @@ from life_tools.journal.file import EMPTY, FIRST_GATE, RECORD_SIZE, Journal, gat
 from life_tools.journal.wholeness import demand_undamaged
 
 KIND, NUMBER, DAY = 1, 5, 9
-# records that are looked at at once, so few that a thread beside needn't wait for long
+# number of records that are processed at once, so few that another thread does not wait long
 AT_ONCE = 1 << 14
 
 
 @dataclass
 class Columns:
-    """The commands of a journal: how many there are, their kinds, numbers and days, and the bytes of the file."""
+    """The commands of a journal: the bytes of the file, and how many commands it has."""
 
     data: bytes
     count: int
 
     def whole(self, place: int, code: str) -> array[int]:
-        """The numbers of four bytes that stand at a place of each record."""
+        """Returns the four-byte numbers at one place of all records."""
         found = bytearray(4 * self.count)
         for byte in range(4):
             found[byte::4] = self.data[FIRST_GATE + place + byte:gate_of(self.count):RECORD_SIZE]
@@ -43,12 +43,12 @@ class Columns:
         return self.data[FIRST_GATE + KIND:gate_of(self.count):RECORD_SIZE]
 
     def policies(self) -> array[int]:
-        """The numbers of the policies that were issued, sorted."""
+        """Returns the numbers of the policies that were issued, sorted."""
         issued = compress(self.whole(NUMBER, "I"), self.kinds().translate(alone(CODES["issue"])))
         return array("I", sorted(issued))
 
     def days(self) -> array[int]:
-        """The days of the commands, counted from 1970-01-01; an upgrade has that of the command before it."""
+        """Returns the days of the commands, counted from 1970-01-01; an upgrade gets the day of the command before it."""
         days, kinds = self.whole(DAY, "i"), self.kinds()
         at = kinds.find(CODES["upgrade"])
         if at >= 0:
@@ -56,16 +56,16 @@ class Columns:
         return days
 
     def upgrade(self) -> int:
-        """The position of the upgrade, or 0."""
+        """Returns the position of the upgrade, or 0."""
         return self.kinds().find(CODES["upgrade"]) + 1
 
     def front(self) -> bytes:
-        """The file of these commands alone, its last gate closed."""
+        """Returns the file of these commands alone, with a last commit byte of 0."""
         return self.data[:gate_of(self.count)] + bytes(1)
 
 
 def columns_at(path: str, at: int | None = None) -> Columns:
-    """Those of a journal's file of which nothing shows to be gone, or of its first commands."""
+    """Returns the columns of a journal's file, or of its first `at` commands, if no command is known to be gone from the file."""
     data = bytes_of(path)
     blocks = Blocks(io.BytesIO(data)).through()
     count = demanded(blocks, path)
@@ -76,14 +76,14 @@ def columns_at(path: str, at: int | None = None) -> Columns:
 
 
 def prefix_count(path: str) -> int | None:
-    """How many records stand before the first closed gate of a journal; nothing of a file that the program has to judge."""
+    """Returns how many records precede the first commit byte that is not 1, or None for a file that the program has to judge."""
     with blocks_at(path) as blocks:
         count = blocks.through().count()
     return None if isinstance(count, Journal) or is_unfinished_creation(blocks.front) else count
 
 
 def prefix_sum(path: str, count: int) -> str:
-    """The SHA-256 of the file of the first records alone, its last gate closed."""
+    """Returns the SHA-256 of the file that has only the first `count` records and a last commit byte of 0."""
     found, left = hashlib.sha256(), gate_of(count)
     with opened(path) as file:
         while left and (part := file.read(min(left, AT_ONCE * RECORD_SIZE))):
@@ -94,7 +94,10 @@ def prefix_sum(path: str, count: int) -> str:
 
 
 def copy_prefix(path: str, at: int | None, to: str) -> None:
-    """Copies the file of a journal's first records alone, its last gate closed; whole what the program has to judge."""
+    """Copies the first `at` records of a journal with a last commit byte of 0.
+
+    A file that the program has to judge, because it is not a complete journal, is copied whole.
+    """
     count = prefix_count(path)
     if at is not None and count is not None and at > count:
         raise Wrong(f"{path} has {count} commands, and not {at}")
@@ -107,7 +110,7 @@ def copy_prefix(path: str, at: int | None, to: str) -> None:
 
 
 def send(path: str, size: int, to: str) -> int:
-    """Copies a file's first bytes, as far as it has them: how many these are."""
+    """Copies the first `size` bytes of a file, or all if it has fewer, and returns how many were copied."""
     place = 0
     with opened(path) as file, open(to, "wb") as copy:
         while place < size and (sent := os.sendfile(copy.fileno(), file.fileno(), place, size - place)):
@@ -116,7 +119,7 @@ def send(path: str, size: int, to: str) -> int:
 
 
 def close_gate(path: str, place: int) -> None:
-    """Ends a journal's file with a closed gate at a place."""
+    """Ends a journal's file at a place with a commit byte of 0."""
     with open(path, "r+b") as file:
         file.truncate(place)
         file.seek(place)
@@ -124,12 +127,13 @@ def close_gate(path: str, place: int) -> None:
 
 
 def places_in(path: str) -> int:
-    """How many records have room in a journal, before a last commit byte."""
+    """Returns how many records fit in a journal file of this length before a last commit byte."""
     return max(os.path.getsize(path) - len(EMPTY), 0) // RECORD_SIZE
 
 
 def beginnings_at(path: str, count: int) -> frozenset[int]:
-    """The first two bytes of all numbers in the first records of a journal, in a small part of the time of the numbers."""
+    """Returns the set of the first two bytes of all numbers in a journal's first records, much faster than the numbers are
+    read."""
     found: set[int] = set()
     with opened(path) as file:
         file.seek(FIRST_GATE)
@@ -144,7 +148,7 @@ def beginnings_at(path: str, count: int) -> frozenset[int]:
 
 
 def distinct(data: bytes) -> set[int]:
-    """The bytes that occur; where they are few, as in numbers in a row, in a tenth of the time of a set of all."""
+    """Returns the bytes that occur in `data`; if they are few, it takes a tenth of the time of a set of all bytes."""
     found: set[int] = set()
     while data and len(found) < 8:
         found.add(data[0])

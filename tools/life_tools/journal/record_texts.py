@@ -1,4 +1,4 @@
-"""The records of a journal as texts, made kind by kind and given in their order, without an object a command."""
+"""Makes texts of a journal's records, kind by kind, and gives them in their order, without an object for each command."""
 from __future__ import annotations
 
 from typing import Callable, Iterable, Iterator, Sequence, TypeVar
@@ -11,24 +11,24 @@ from life_tools.journal.records import Records
 from life_tools.journal.policy_columns import Policies
 from life_tools.common.progress import Progress
 
-# so many records are made at once
+# number of records whose texts are made at once
 AT_ONCE = 1 << 15
-# the columns that a kind holds, by the names under which they are exported
+# the columns of each kind, by the names under which they are exported
 HELD = {kind: ("position", "policy", "day", *names) if kind != "upgrade" else ("position",) for kind, names in FIELDS.items()}
 TEXTS = ("day", "plan", "amount", "premium")
-# the accounts between which a kind moves its cents, and the sign of the first
+# the accounts between which a kind moves its cents, and the sign of the first account
 BOOKED = {"premium": ("cash", 1, "premiums"), "reinstate": ("cash", 1, "premiums"), "settle": ("cash", -1, "payable"),
           "claim": ("incurred", 1, "payable"), "mature": ("incurred", 1, "payable")}
 T = TypeVar("T")
 
 
 def moneys(cents: Cents) -> list[str]:
-    """Amounts as texts; none of them is below 0."""
+    """Returns amounts as texts; no amount may be below 0."""
     return [f"{each // 100}.{each % 100:02}" for each in cents.tolist()]
 
 
 def column_of(records: Records, name: str, places: Array) -> Sequence[object]:
-    """A column of some records as texts, or as whole numbers."""
+    """Returns a column of some records as texts or as whole numbers."""
     if name == "position":
         whole: list[int] = (places + 1).tolist()
         return whole
@@ -43,7 +43,7 @@ def column_of(records: Records, name: str, places: Array) -> Sequence[object]:
 
 
 def in_order(records: Records, made: Callable[[str, Array], Iterable[T]], doing: str) -> Iterator[list[T]]:
-    """Something of each record, which is made of the places of all of a kind; a list for each block of records."""
+    """Yields a list for each block of records, with one item a record; `made` gives the items for the places of one kind."""
     progress = Progress(doing, len(records))
     for start in range(0, len(records), AT_ONCE):
         kinds = records.kind[start:start + AT_ONCE]
@@ -57,7 +57,7 @@ def in_order(records: Records, made: Callable[[str, Array], Iterable[T]], doing:
 
 
 def lines_of(records: Records, template_of: Callable[[str], str]) -> Iterator[str]:
-    """The lines of the records by a kind's template, in which %s stands for each column that it holds; block by block."""
+    """Yields the lines of the records, block by block; in a kind's template %s stands for each column of that kind."""
     templates = {kind: template_of(kind) for kind in HELD}
 
     def made(kind: str, places: Array) -> Iterator[str]:
@@ -69,12 +69,12 @@ def lines_of(records: Records, template_of: Callable[[str], str]) -> Iterator[st
 
 
 def plain_template(kind: str) -> str:
-    """The position, and the fields of a script after the lane."""
+    """Returns the template of a line with the position, and then the fields of a script after the lane."""
     return ",".join(["%s", kind, *["%s"] * (len(HELD[kind]) - 1)]) + "\n"
 
 
 def transactions_of(book: Columns) -> Iterator[str]:
-    """What the commands book, as transactions of plain text accounting; block by block."""
+    """Yields what the commands book as transactions of plain text accounting, block by block."""
     def made(kind: str, places: Array) -> Iterator[str]:
         if kind not in BOOKED:
             return ("" for _ in places)
@@ -91,7 +91,7 @@ def transactions_of(book: Columns) -> Iterator[str]:
 
 
 def policy_lines(policies: Policies) -> Iterator[str]:
-    """The policies as `state` prints them, block by block."""
+    """Yields the policies as `state` prints them, block by block."""
     for start in range(0, len(policies), AT_ONCE):
         of = policies.at(slice(start, start + AT_ONCE))
         columns = (of.number, of.status, of.plan, of.age, of.years)

@@ -1,7 +1,7 @@
-"""The records of a journal as columns, and which of them spell no command.
+"""Reads the records of a journal as columns, and finds those that encode no command.
 
-Each column has a value for each record, in their order: the record of place n, counted from 0, is the command of position
-n + 1. `commands.command_in` says the same of one record.
+Each column has one value for each record, in their order: the record at place n, counted from 0, is the command at position n +
+1. `commands.command_in` decides the same for a single record.
 """
 from __future__ import annotations
 
@@ -15,12 +15,12 @@ from life_tools.journal.file import FIRST_GATE, RECORD_SIZE, gate_of
 from life_tools.common.arrays import Array, Cents, np
 from life_tools.journal.blocks import AT_ONCE, Blocks, prefix_at
 
-# a record as it stands in the file; the bytes after its premium are 0 of every kind, and an amount of 2^63 or more is below 0
-# here, so outside its limits as well
+# A record as it is stored in the file. The bytes after the premium are 0 for every kind. An amount of 2^63 or more is below 0
+# here, and therefore outside its limits as well.
 RECORD = np.dtype([("gate", "u1"), ("kind", "u1"), ("plan", "u1"), ("age", "u1"), ("years", "u1"), ("number", ">u4"),
                    ("day", ">i4"), ("amount", ">i8"), ("premium", ">i8"), ("idle", "u1", 36)])
 assert RECORD.itemsize == RECORD_SIZE == BODY_SIZE + 1
-# so many records are whole words of 64 bits; and the bits of these in which a record holds nothing
+# ROW records are a whole number of 64-bit words; IDLE has the bits of these words that must be 0
 ROW = 64
 IDLE = np.frombuffer(ROW * (bytes(RECORD_SIZE - RECORD["idle"].itemsize) + b"\xff" * RECORD["idle"].itemsize), np.uint64)
 ISSUE, PREMIUM, ALTER, LAPSE, REINSTATE, CLAIM, SETTLE, MATURE, UPGRADE, PAIDUP = KINDS
@@ -29,7 +29,7 @@ WHOLE = PLAN_CODES["whole"]
 
 @dataclass(frozen=True)
 class Records:
-    """Kinds by their codes; plan, age and years of an issue, else 0; days from 1970-01-01; cents. An upgrade has a kind alone."""
+    """Kinds by their codes; plan, age and years for an issue, else 0; days from 1970-01-01; cents. An upgrade has only a kind."""
 
     kind: Array
     plan: Array
@@ -50,11 +50,11 @@ class Records:
         return self.part(0, count)
 
     def command(self, place: int) -> Command:
-        """The command of a place, as an object."""
+        """Returns the command at a place as an object."""
         return next(self.commands(np.array([place])))
 
     def commands(self, places: Array) -> Iterator[Command]:
-        """The commands of some places, as objects."""
+        """Yields the commands at some places as objects."""
         for start in range(0, len(places), AT_ONCE):
             columns = (getattr(self, column.name)[places[start:start + AT_ONCE]].tolist() for column in fields(self))
             for kind, plan, age, years, number, day, amount, premium in zip(*columns):
@@ -62,7 +62,7 @@ class Records:
                 yield Command(KINDS[kind], number, on, PLANS[plan] if plan else "", age, years, amount, premium)
 
     def places_of(self, number: int) -> Array:
-        """The places of a policy's commands."""
+        """Returns the places of a policy's commands."""
         return np.flatnonzero(self.number == number)
 
 
@@ -72,13 +72,13 @@ def blank(count: int) -> Records:
 
 
 def with_room(records: Records) -> Records:
-    """The same with as much room again."""
+    """Returns columns with twice the capacity that begin with these records."""
     more = blank(max(len(records), AT_ONCE))
     return Records(*(np.concatenate([getattr(each, column.name) for each in (records, more)]) for column in fields(Records)))
 
 
 def limits(of: dict[str, tuple[int, int]]) -> tuple[Array, Array]:
-    """The least and the most of a field by the kinds' codes; of one that a kind doesn't hold, 0."""
+    """Returns the least and the greatest value of a field by the code of the kind; both are 0 for a kind without the field."""
     pairs = [of.get(KINDS.get(code, ""), (0, 0)) for code in range(256)]
     return np.array([least for least, _ in pairs], np.int64), np.array([most for _, most in pairs], np.int64)
 
@@ -95,16 +95,16 @@ def is_within(values: Array, kinds: Array, of: tuple[Array, Array]) -> Array:
 
 
 def is_issue_right(plan: Array, age: Array, years: Array) -> Array:
-    """Whether they fit, of issues."""
+    """Returns which issues have a plan, an age and years that fit together."""
     do_years = np.where(plan == WHOLE, years == 0, (years >= 2) & (years <= LAST_AGE - age.astype(np.int16)))
     right: Array = (plan >= 1) & (plan <= len(PLANS)) & (age <= OLDEST_AT_ISSUE) & do_years
     return right
 
 
 def is_right(block: Records) -> Array:
-    """Whether each record spells a valid command, by all but what follows its premium."""
+    """Returns which records encode a valid command; the bytes after the premium are not checked here."""
     kind, plan, age, years = block.kind, block.plan, block.age, block.years
-    # where all are of one kind, its limits are looked up once
+    # if all records are of one kind, its limits are looked up only once
     kinds = kind[:1] if (kind == kind[0]).all() else kind
     right = is_within(block.amount, kinds, AMOUNTS) & is_within(block.premium, kinds, PREMIUMS)
     right &= (kinds >= ISSUE) & (kinds <= PAIDUP)
@@ -117,13 +117,13 @@ def is_right(block: Records) -> Array:
 
 
 def take_block(raw: Array, block: Records) -> None:
-    """Takes the columns of some records of the file."""
+    """Copies the fields of some records of the file into the columns of `block`."""
     for column in fields(block):
         getattr(block, column.name)[:] = raw[column.name]
 
 
 def has_idle_bytes(block: memoryview, raw: Array) -> Array:
-    """Which records of a block have bytes after their premium."""
+    """Returns which records of a block have a byte after their premium that is not 0."""
     rows, found = len(raw) // ROW, np.zeros(len(raw), bool)
     words = np.frombuffer(block, np.uint64, len(IDLE) * rows).reshape(rows, len(IDLE))
     has_none = not (np.bitwise_or.reduce(words, axis=0) & IDLE).any()
@@ -133,7 +133,7 @@ def has_idle_bytes(block: memoryview, raw: Array) -> Array:
 
 
 def records_in(parts: Iterable[memoryview], room: int) -> tuple[Records, bytes | None]:
-    """The columns of records up to the first one that spells no command, and that one's body, if there is one."""
+    """Returns the columns of the records up to the first one that encodes no command, and the body of that record or None."""
     records, count, misspelled = blank(room), 0, None
     for part in parts:
         if misspelled is not None or not part:
@@ -151,17 +151,17 @@ def records_in(parts: Iterable[memoryview], room: int) -> tuple[Records, bytes |
 
 
 def records_of(blocks: Blocks) -> tuple[Records, bytes | None]:
-    """Those of a journal."""
+    """Returns the columns of a journal's records, and the body of the first one that encodes no command, or None."""
     return records_in(blocks, blocks.room)
 
 
 def raw_records(data: bytes, count: int) -> Array:
-    """A file's first records as they stand in it."""
+    """Returns the first `count` records of a file's bytes as they are stored."""
     return np.frombuffer(data, RECORD, count, FIRST_GATE) if count else np.empty(0, RECORD)
 
 
 def records_behind(path: str, first: int, last: int) -> Records:
-    """The columns of a copy's records after one position, up to another; none but these are read."""
+    """Returns the columns of a copy's records after position `first` up to `last`; no other records are read."""
     with opened(path) as file:
         file.seek(gate_of(first))
         ends = range(first + AT_ONCE, last + AT_ONCE, AT_ONCE)
@@ -174,7 +174,7 @@ def records_behind(path: str, first: int, last: int) -> Records:
 # --- some policies alone, of a file whose records aren't judged ---
 
 def places_in(data: bytes, count: int, numbers: Iterable[int]) -> Array:
-    """The places of the commands of these policies among a file's first records, whatever else these say."""
+    """Returns the places of the commands of these policies among a file's first records, whatever else these records hold."""
     raw, wanted = raw_records(data, count), np.array(sorted(set(numbers)), np.uint32)
     found = [start + np.flatnonzero(np.isin(raw["number"][start:start + AT_ONCE].astype(np.uint32), wanted))
              for start in range(0, count, AT_ONCE)]
@@ -182,18 +182,18 @@ def places_in(data: bytes, count: int, numbers: Iterable[int]) -> Array:
 
 
 def places_at(path: str, count: int, numbers: Iterable[int]) -> list[int]:
-    """The same of a file that has so many records, or more."""
+    """Does the same for a file that has at least so many records."""
     places: list[int] = places_in(prefix_at(path, count), count, numbers).tolist()
     return places
 
 
 def days_at(path: str, count: int) -> tuple[Array, int]:
-    """The days of a copy's first records, as numbers, and the upgrade's position, or 0; what else they say isn't judged."""
+    """Returns the days of a copy's first records as numbers, and the upgrade's position or 0; nothing else of them is judged."""
     raw = np.fromfile(path, RECORD, count, offset=FIRST_GATE) if count else np.empty(0, RECORD)
     upgrades = np.flatnonzero(raw["kind"] == UPGRADE)
     return raw["day"].astype(np.int32), int(upgrades[0]) + 1 if len(upgrades) else 0
 
 
 def upgrade_in(data: bytes, count: int) -> int:
-    """The position of the first upgrade among a file's first records, or 0."""
+    """Returns the position of the first upgrade among a file's first records, or 0."""
     return data[FIRST_GATE + 1:FIRST_GATE + RECORD_SIZE * count:RECORD_SIZE].find(UPGRADE) + 1

@@ -1,7 +1,7 @@
-"""What a journal's commands make of its policies, of all policies at once, and the first command that can't follow.
+"""Applies the commands of a journal to all its policies at once, and finds the first command that cannot follow.
 
-The commands are judged block by block. Those of a block go in rounds: the first command of each policy there, then the second,
-and so on; of the few policies that are left in the end each command is decided by `rules.decide`.
+The commands are judged block by block, and a block in rounds: the first command of each policy in it, then the second, and so on.
+When few policies are left in a block, `rules.decide` decides their remaining commands one by one.
 """
 from __future__ import annotations
 
@@ -12,19 +12,20 @@ from life_tools.common.arrays import Array, Cents, np
 from life_tools.journal.policy_columns import RIGHT, TERM, Chosen, Policies, change, is_accepted, issued_by
 from life_tools.rules.policies import Policy, Refusal, booking_of, decide
 
-# numbers are looked up in a table where the greatest is at most so many times as great as the count and this, else in a list
+# Numbers are looked up in a table if the greatest is at most SPREAD times the count plus LEAST_TABLE, and otherwise in a sorted
+# list.
 SPREAD, LEAST_TABLE = 8, 1 << 20
-# so many commands at once that what is made of them lies in a processor's cache
+# number of commands in a block, so that the block's data fits in a processor's cache
 AT_ONCE = 1 << 15
-# so few policies that their commands are decided one after the other
+# when at most so many policies are left, their commands are decided one after the other
 FEW = 24
 
 
 class Rounds:
-    """What is left of policies' commands, in rounds: the first of each policy, then the second, and so on.
+    """The remaining commands of policies, in rounds: the first command of each policy, then the second, and so on.
 
-    `order` has the commands policy by policy, and of each policy it begins and ends at a place. Those with most commands left
-    stand first; what few policies have left in the end is given of one policy after the other.
+    `order` has the commands policy by policy; those of a policy are between its places in `begins` and `ends`. The policies with
+    the most commands stand first. When few policies are left, `alone` gives their commands policy by policy.
     """
 
     def __init__(self, order: Array, begins: Array, ends: Array) -> None:
@@ -40,20 +41,20 @@ class Rounds:
         return len(self.mine) - int(np.searchsorted(self.rising, self.done, "right"))
 
     def rounds(self) -> Iterator[tuple[Array, Array]]:
-        """A command of each of some policies, and the policies."""
+        """Yields, for each round, one command of each policy that still has one, and these policies."""
         while (active := self.active) > FEW:
             mine = self.mine[:active]
             yield self.order[self.begins[mine] + self.done], mine
             self.done += 1
 
     def alone(self) -> Iterator[tuple[int, Array]]:
-        """A policy, and all commands that it has left after the rounds."""
+        """Yields each policy that is left after the rounds, with all its remaining commands."""
         for place in self.mine[:self.active].tolist():
             yield place, self.order[self.begins[place] + self.done:self.ends[place]]
 
 
 class Replay:
-    """The policies that the commands leave. Where one can't follow, `bad` is its place, and nothing after it counts."""
+    """The policies after the commands. If a command cannot follow, `bad` is its place, and the commands after it do not count."""
 
     def __init__(self, records: Records) -> None:
         self.records = records
@@ -63,16 +64,16 @@ class Replay:
         self.find_upgrade()
         issues = np.flatnonzero(self.kind == ISSUE)
         self.policies: Policies = issued_by(records, issues)
-        # of each record the place of its policy, or -1 of an upgrade; and the cents that it books
+        # for each record, the place of its policy (-1 for an upgrade), and the cents that it books
         self.place: Array = np.empty(self.count, np.int32)
         self.booked: Cents = np.zeros(self.count, np.int64)
-        # of each policy the place of a command in its block
+        # for each policy, the place of one of its commands in the block that is checked last
         self.last_at: Array = np.zeros(len(issues), np.int32)
         self.judge(issues)
 
     @property
     def count(self) -> int:
-        """How many commands may follow one another, as far as is known."""
+        """Returns how many commands can follow one another as far as is known so far."""
         return len(self.records) if self.bad is None else self.bad
 
     @property
@@ -80,7 +81,7 @@ class Replay:
         return self.records.kind[:self.count]
 
     def finds_bad(self, places: Array) -> None:
-        """These commands can't follow."""
+        """Notes that the commands at these places cannot follow."""
         if len(places):
             self.bad = min(self.count, int(places.min()))
 
@@ -92,7 +93,7 @@ class Replay:
 
     def judge(self, issues: Array) -> None:
         numbers = Numbers(self.records.number[issues], self.records.number[:self.count])
-        # after all records that of a policy that is nowhere
+        # an unknown policy counts as issued after all records
         issued_at = np.append(issues, self.count)
         start = 0
         while start < self.count:
@@ -102,7 +103,7 @@ class Replay:
             start = some.stop
 
     def judge_block(self, some: slice, place: Array, issued_at: Array) -> None:
-        """Each issue makes a policy, of a new number, and every other command names one that is there."""
+        """Judges a block: each issue must use a new number, and every other command must name a policy that was issued before."""
         kind, at = self.records.kind[some], np.arange(some.start, some.stop)
         is_issue, is_upgrade = kind == ISSUE, kind == UPGRADE
         place[is_upgrade] = -1
@@ -111,18 +112,18 @@ class Replay:
         issues, others = np.flatnonzero(is_issue), np.flatnonzero(~(is_issue | is_upgrade))
         self.finds_bad(at[issues[issued_at[place[issues]] != at[issues]]])
         self.finds_bad(at[others[issued_at[place[others]] > at[others]]])
-        # after the first one that can't follow nothing is judged; so each of these names a policy that is there
+        # nothing after the first command that cannot follow is judged, so each of these commands names an issued policy
         sound = others if self.bad is None else others[at[others] < self.bad]
         self.judge_rounds(at[sound], place[sound].astype(np.intp))
 
     def are_apart(self, places: Array) -> bool:
-        """Whether no policy is there twice."""
+        """Returns whether no policy occurs twice among these places."""
         at = np.arange(len(places), dtype=np.int32)
         self.last_at[places] = at
         return bool((self.last_at[places] == at).all())
 
     def judge_rounds(self, where: Array, places: Array) -> None:
-        """Commands of a block that are no issues; the policies with most of them stand first."""
+        """Judges the commands of a block that are neither issues nor upgrades, in rounds unless each policy has only one."""
         if self.are_apart(places):
             self.judge_round(where, places)
             return
@@ -136,7 +137,7 @@ class Replay:
             self.judge_alone(int(mine[one]), rest)
 
     def judge_round(self, where: Array, places: Array) -> None:
-        """A command of each of some policies."""
+        """Judges one command for each of some policies."""
         if self.bad is not None:
             still = where < self.bad
             where, places = where[still], places[still]
@@ -155,7 +156,7 @@ class Replay:
             self.booked[where] = np.where((of.plan == TERM) & (kind == MATURE), 0, of.amount)
 
     def judge_alone(self, place: int, where: Array) -> None:
-        """The commands of one policy."""
+        """Judges the remaining commands of one policy, one by one."""
         policy = self.policies.policy(place)
         where = where[where < self.count]
         for at, command in zip(where.tolist(), self.records.commands(where)):
@@ -169,7 +170,7 @@ class Replay:
         self.policies.put(place, policy)
 
     def refusal(self) -> Refusal:
-        """Why the bad command can't follow, by the rules of one command after the other."""
+        """Returns why the bad command cannot follow, by the rules for single commands."""
         assert self.bad is not None
         command = self.records.command(self.bad)
         if command.kind == "upgrade":
@@ -190,7 +191,8 @@ BOOKS = np.isin(np.arange(256), (PREMIUM, REINSTATE, SETTLE))
 
 
 def stable_order(place: Array) -> Array:
-    """The places of numbers from -1 on in rising order, equal ones in their own: sixteen bits at once, as numpy's radix sort."""
+    """Returns the order that sorts numbers from -1 on and keeps equal ones in their order; numpy radix-sorts 16 bits at a
+    time."""
     number = (place + 1).astype(np.uint32)
     order = np.argsort((number & 0xFFFF).astype(np.uint16), kind="stable")
     if len(number) and int(number.max()) > 0xFFFF:
@@ -199,7 +201,7 @@ def stable_order(place: Array) -> Array:
 
 
 class Numbers:
-    """Finds the policies of numbers: the first place of each among those that are known, or -1."""
+    """Finds for each number the first place at which it stands among the known numbers, or -1."""
 
     def __init__(self, known: Array, asked: Array) -> None:
         most = int(max(known.max(initial=0), asked.max(initial=0)))
@@ -207,7 +209,7 @@ class Numbers:
         self.known = known
         if most <= SPREAD * len(asked) + LEAST_TABLE:
             self.table = np.full(most + 1, -1, np.int32)
-            # of equal ones the last that is written stays
+            # of equal numbers the last assignment stays, so the arrays are reversed to keep the first place
             self.table[known[::-1]] = np.arange(len(known), dtype=np.int32)[::-1]
         else:
             self.order = np.argsort(known, kind="stable").astype(np.int32)
@@ -223,5 +225,5 @@ class Numbers:
 
 
 def places_of(numbers: Array, known: Array) -> Array:
-    """The first place of each number among those that are known, or -1."""
+    """Returns for each number its first place among the known numbers, or -1."""
     return Numbers(known, numbers).places(numbers)

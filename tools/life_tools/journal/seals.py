@@ -1,6 +1,6 @@
-"""A seal: what a book's front and its basis were, as a few lines to keep elsewhere, by which they are known again.
+"""Makes and checks seals: a few lines to keep elsewhere, which show later whether a journal's prefix and its basis are the same.
 
-Its lines are CSV. The day is the latest of the prefix's postings, or empty where there is none:
+The lines are CSV. The day is the latest of the prefix's postings, or empty if there is none:
 
     seal,1,DAY ON WHICH IT WAS MADE
     position,POSITION,COMMANDS THAT THE JOURNAL HAD,DAY
@@ -8,7 +8,8 @@ Its lines are CSV. The day is the latest of the prefix's postings, or empty wher
     file,NAME,BYTES,SHA-256        of the basis and of each table that it names
     sum,SHA-256                    of the lines above
 
-The front is what no posting changes: 17 bytes and 65 for each command, without the commit byte after the last one.
+The line `front` is for the prefix, which no posting changes: 17 bytes and 65 for each command, without the commit byte after the
+last one.
 """
 from __future__ import annotations
 
@@ -34,7 +35,7 @@ FARTHEST = 10**6
 
 
 class Sealed(NamedTuple):
-    """A file of a basis: its name, its length, and its SHA-256."""
+    """A sealed file: its name, its length in bytes, and its SHA-256."""
 
     name: str
     size: int
@@ -43,7 +44,7 @@ class Sealed(NamedTuple):
 
 @dataclass(frozen=True)
 class Seal:
-    """What a seal says: of a prefix of so many commands, of which day, with which sum; and of the files of bases."""
+    """What a seal says: the position, day and sum of a prefix, the count at the time, and the files of the bases."""
 
     made: datetime.date
     position: int
@@ -64,7 +65,7 @@ def sum_of(data: bytes | memoryview) -> str:
 # --- how one is made ---
 
 def sealed_files(folder: str, bases: Sequence[str]) -> tuple[Sealed, ...]:
-    """The basis files and their tables, each once, in the order in which they are named."""
+    """Returns the basis files and their tables, each once, in the order in which they are named."""
     found: dict[str, Sealed] = {}
 
     def take(name: str, place: int) -> bytes:
@@ -81,7 +82,7 @@ def sealed_files(folder: str, bases: Sequence[str]) -> tuple[Sealed, ...]:
 
 
 def newest_of(days: Sequence[int], path: str) -> datetime.date | None:
-    """The latest of the days of records, which aren't judged here but for this."""
+    """Returns the latest of the days of records, or None if there are none; nothing else of the records is judged here."""
     if not days:
         return None
     newest = EPOCH + datetime.timedelta(max(days)) if abs(max(days)) < FARTHEST else None
@@ -90,7 +91,7 @@ def newest_of(days: Sequence[int], path: str) -> datetime.date | None:
 
 
 def seal_of(folder: str, position: int | None = None, bases: Sequence[str] = ("basis.csv",)) -> Seal:
-    """The seal of a folder's journal at a position (the newest if none is given) and of these bases."""
+    """Returns the seal of a folder's journal at a position (the newest if none is given) and of these bases."""
     path = os.path.join(folder, JOURNAL)
     whole = columns_at(path)
     front = whole if position is None else columns_at(path, position)
@@ -129,7 +130,7 @@ def sealed_in(line: str) -> Sealed:
 
 
 def seal_in(text: str) -> Seal:
-    """The seal of a text, which has to be whole: its last line is the sum of the others."""
+    """Returns the seal that a text holds. The text must be complete: its last line is the sum of the lines before it."""
     lines = text.splitlines()
     demand(len(lines) >= 4, "that is no seal")
     _, version, made = fields_of(lines[0], "seal", 3)
@@ -151,7 +152,7 @@ def seal_at(path: str) -> Seal:
 # --- whether a book is still that of a seal ---
 
 def front_difference(seal: Seal, path: str) -> str | None:
-    """How the prefix of a journal's file differs, or none where it is the same."""
+    """Returns how the journal's file differs from the sealed prefix, or None if it does not."""
     data = bytes_of(path)
     if len(data) < seal.size:
         return f"{path} has {len(data)} bytes, and the front had {seal.size}"
@@ -162,7 +163,7 @@ def front_difference(seal: Seal, path: str) -> str | None:
 
 
 def shape_by(shape: Shape, seals: Sequence[str]) -> Shape:
-    """The shape of a journal's file with what these seals have noted of it."""
+    """Returns the shape of a journal's file with the counts that these seals noted, and the seals that it does not match."""
     noted, unlike = list(shape.noted), list(shape.unlike)
     for each in seals:
         seal = seal_at(each)
@@ -174,7 +175,7 @@ def shape_by(shape: Shape, seals: Sequence[str]) -> Shape:
 
 
 def count_difference(seal: Seal, path: str) -> str | None:
-    """Whether commands after the prefix are gone: a journal only grows."""
+    """Returns a message if commands after the sealed prefix are gone, or else None: a journal only grows."""
     try:
         count = shape_at(path).count
     except BadJournal as bad:
@@ -195,7 +196,7 @@ def file_difference(sealed: Sealed, folder: str) -> str | None:
 
 
 def differences(seal: Seal, folder: str) -> list[str]:
-    """What of a folder isn't as a seal says; nothing where all of it is."""
+    """Returns what in a folder differs from a seal; the list is empty if nothing does."""
     path = os.path.join(folder, JOURNAL)
     found = [front_difference(seal, path) or count_difference(seal, path),
              *(file_difference(each, folder) for each in seal.files)]

@@ -1,9 +1,9 @@
-"""Whether a journal's file is whole: its length beside its count, and who knows of more commands than it has.
+"""Decides whether a journal's file is whole, by its length, its count, and any file that has noted a greater count.
 
-A commit byte that isn't 1 ends the journal, so one damaged byte hides all that lies after it, and the next posting writes over
-it. But a book on which a run has ended duly has 18 bytes and 65 for each command. A crash or a fault leaves at most 65 more,
-which nothing cuts off; a damaged last commit byte leaves as many. Who noted a greater count tells the two apart: a
-checkpoint, a seal that was kept, or the log of a day's work.
+A commit byte that is not 1 ends the journal, so a single damaged commit byte hides everything after it, and the next posting
+overwrites it. But a book whose last run ended normally has 18 bytes and 65 for each command. A crash or a fault leaves at most 65
+bytes more, which nothing removes; a damaged last commit byte leaves as many. A greater count that was noted elsewhere tells the
+two cases apart: in a checkpoint, in a seal, or in the log of a day's work.
 """
 from __future__ import annotations
 
@@ -22,21 +22,21 @@ from life_tools.journal.file import OPEN, RECORD_SIZE, BadJournal, gate_of
 JOURNAL, CHECKPOINT, LOG = "journal.life", "checkpoint.life", "log"
 WHOLE, UNDECIDED, DAMAGED, EMPTY = "whole", "undecided", "damaged", "empty"
 ACCEPTED = re.compile(rb",accepted,([0-9]{1,7})\n")
-# of what a run printed so much of the end is looked at
+# number of bytes at the end of a run's output that are searched
 LOOKED_AT = 1 << 16
 
-# the commands and the bytes of a journal's file
+# the count and the length in bytes of a journal's file
 Seen = Tuple[int, int]
 
 
 class Damaged(Wrong):
-    """Commands of a journal are gone, or can't be read any more."""
+    """Commands of a journal are gone, or can no longer be read."""
 
     status = 1
 
 
 class Noted(NamedTuple):
-    """Who noted that the journal has had so many commands."""
+    """A source, and the number of commands that it noted of the journal."""
 
     by: str
     commands: int
@@ -44,7 +44,7 @@ class Noted(NamedTuple):
 
 @dataclass(frozen=True)
 class Shape:
-    """A journal's file: how many commands it has, its length, who noted how many, and which seals it isn't of any more."""
+    """The shape of a journal's file: its count, its length, who noted which counts, and how it differs from seals."""
 
     path: str
     count: int
@@ -54,7 +54,7 @@ class Shape:
 
     @property
     def excess(self) -> int:
-        """The bytes after the commit byte that ends it."""
+        """Returns the number of bytes after the commit byte that ends the journal."""
         return max(0, self.length - gate_of(self.count) - 1)
 
     @property
@@ -66,7 +66,7 @@ class Shape:
         return UNDECIDED if self.excess else WHOLE
 
     def reasons(self) -> Iterator[str]:
-        """What isn't as it is in a whole book."""
+        """Yields what is not as it would be in a whole book."""
         if not self.length:
             yield f"{self.path} is empty, and the program would begin a new book in it"
         if self.excess:
@@ -85,7 +85,7 @@ class Shape:
 # --- the file ---
 
 def shape_at(path: str, seen: Seen | None = None) -> Shape:
-    """The shape of a journal's file alone; of one that isn't a journal the program's answer is reported."""
+    """Returns the shape of a journal's file alone, and raises BadJournal with the program's line if it is not a journal."""
     if seen:
         return Shape(path, *seen)
     demand(os.path.lexists(path), f"there is no {path}")
@@ -96,7 +96,7 @@ def shape_at(path: str, seen: Seen | None = None) -> Shape:
 # --- who noted a count ---
 
 def checkpoint_count(path: str) -> int | None:
-    """The count in a checkpoint's front; nothing of a file that is none."""
+    """Returns the count in a checkpoint's header, or None if the file is not a checkpoint."""
     try:
         with opened(path) as file:
             front = file.read(21)
@@ -109,7 +109,7 @@ def checkpoint_count(path: str) -> int | None:
 
 
 def accepted_in(path: str) -> int:
-    """The position of the last accepted line near the end of what a run printed, or 0."""
+    """Returns the position of the last accepted line near the end of a run's output, or 0."""
     if not os.path.isfile(path):
         return 0
     with open(path, "rb") as file:
@@ -119,7 +119,7 @@ def accepted_in(path: str) -> int:
 
 
 def log_count(log: str) -> int | None:
-    """How many commands the journal had after the newest run that `life-tools day` noted; nothing where it noted none."""
+    """Returns how many commands the journal had after the newest run that `life-tools day` noted, or None if it noted none."""
     demand(os.path.isdir(log), f"{log}: No such file or directory")
     runs = os.path.join(log, "runs")
     try:
@@ -128,7 +128,7 @@ def log_count(log: str) -> int | None:
             return None
         folder = os.path.join(runs, max(numbers, key=int))
         record = json.loads(bytes_of(os.path.join(folder, "run.json")))
-        # a run that was interrupted is known by what it printed
+        # if a run was interrupted, its transcript shows how far it came
         after: int = record["after"] if record["after"] is not None else \
             max(record["before"], accepted_in(os.path.join(folder, "transcript")))
         return after
@@ -146,23 +146,23 @@ def noted_by(checkpoint: str | None, log: str | None) -> Iterator[Noted]:
 
 
 def shape_with(path: str, checkpoint: str | None, log: str | None, seen: Seen | None = None) -> Shape:
-    """The shape of a file with what these have noted of it."""
+    """Returns the shape of a file with the counts that a checkpoint and a log have noted."""
     shape = shape_at(path, seen)
     return Shape(path, shape.count, shape.length, tuple(noted_by(checkpoint, log)))
 
 
 def beside(path: str) -> tuple[str | None, str | None]:
-    """The checkpoint and the log that lie beside a journal of that name, where they do; another file has neither."""
+    """Returns the checkpoint and the log beside a file named `journal.life`, if they exist; other files have neither."""
     folder, name = os.path.split(path)
     checkpoint, log = os.path.join(folder, CHECKPOINT), os.path.join(folder, LOG)
     is_book = name == JOURNAL
     return (checkpoint if is_book and os.path.isfile(checkpoint) else None), (log if is_book and os.path.isdir(log) else None)
 
 
-# --- what a tool does with it; one that has read the file states what it has seen of it ---
+# --- what a tool does with it; a tool that has read the file passes what it has seen of it ---
 
 def demand_undamaged(path: str, seen: Seen | None = None) -> Shape:
-    """The shape of a book of which nothing shows to be gone."""
+    """Returns the shape of a book and raises Damaged if commands are known to be gone."""
     shape = shape_with(path, *beside(path), seen=seen)
     if shape.verdict == DAMAGED:
         raise Damaged(shape.told())
@@ -170,7 +170,7 @@ def demand_undamaged(path: str, seen: Seen | None = None) -> Shape:
 
 
 def doubt_of(path: str, seen: Seen | None = None) -> str:
-    """What is to be reported of a book that may not be whole; what is no journal is left to who reads it."""
+    """Returns what to report if a book may not be whole; a file that is not a journal is left to the tool that reads it."""
     try:
         return demand_undamaged(path, seen).told()
     except BadJournal:
@@ -178,14 +178,14 @@ def doubt_of(path: str, seen: Seen | None = None) -> str:
 
 
 def tell_doubt(path: str, seen: Seen | None = None) -> None:
-    """Reports it, of a book of which nothing shows to be gone, or of none."""
+    """Prints what suggests that a book may not be whole; raises Damaged if commands are known to be gone."""
     doubt = doubt_of(path, seen) if os.path.isfile(path) else ""
     if doubt:
         remark(doubt)
 
 
 def tell(shape: Shape) -> int:
-    """Reports what isn't as in a whole book: 1, or 0 where nothing is reported."""
+    """Prints everything that is not as in a whole book. Returns 0 if the book is whole, and else 1."""
     for reason in shape.reasons():
         remark(reason)
     if shape.verdict == UNDECIDED:
