@@ -1,4 +1,4 @@
-"""Commands: as rows of a script and as bodies of records, and which of them are valid."""
+"""Reads and writes commands as rows of a script and as bodies of records, and decides which commands are valid."""
 from __future__ import annotations
 
 import datetime
@@ -19,7 +19,7 @@ EPOCH = datetime.date(1970, 1, 1)
 
 @dataclass(frozen=True, slots=True)
 class Command:
-    """A posting: amounts are in cents, and what its kind doesn't hold is empty or 0. An upgrade has its kind alone."""
+    """A posting: amounts are in cents; a field that its kind does not have is empty or 0. An upgrade has only its kind."""
 
     kind: str
     number: int = 0
@@ -32,7 +32,7 @@ class Command:
 
     @property
     def on(self) -> datetime.date:
-        """Its day, which all but an upgrade have."""
+        """Returns the day of a command that is not an upgrade."""
         assert self.day is not None
         return self.day
 
@@ -45,12 +45,12 @@ def number_at(day: datetime.date) -> int:
 
 
 def day_at(number: int) -> datetime.date:
-    """The day so many days after 1970-01-01."""
+    """Returns the day that is `number` days after 1970-01-01."""
     return EPOCH + datetime.timedelta(int(number))
 
 
 def words_of(command: Command) -> list[str]:
-    """The fields of a command after the lane: its kind, its policy's number, its day, and what the kind holds."""
+    """Returns the fields of a script's line after the lane: kind, policy number, day, and the fields that the kind has."""
     if command.kind == "upgrade":
         return [command.kind]
     words = [command.kind, str(command.number), str(command.day)]
@@ -65,7 +65,7 @@ def years_fit(plan: str, age: int, years: int) -> bool:
 
 
 def why_invalid(command: Command) -> str | None:
-    """The first field of a command that lies outside its limits, if there is one."""
+    """Returns what is wrong with the first field that is outside its limits, or None if the command is valid."""
     if command.kind == "upgrade":
         return None if command == UPGRADE else "an upgrade has its kind alone"
     if not 1 <= command.number <= MOST_NUMBER:
@@ -86,21 +86,21 @@ def why_invalid(command: Command) -> str | None:
 
 
 def demand_valid(command: Command) -> None:
-    """Refuses a command of which a field lies outside its limits."""
+    """Raises Wrong if a field of the command is outside its limits."""
     why = why_invalid(command)
     if why:
         raise Wrong(why)
 
 
 def body_of(command: Command) -> bytes:
-    """The record's body of a command."""
+    """Returns the 64 bytes of the record's body for a command."""
     day = number_at(command.day) if command.day else 0
     head = bytes([CODES[command.kind], PLAN_CODES.get(command.plan, 0), command.age, command.years])
     return (head + command.number.to_bytes(4, "big") + day.to_bytes(4, "big", signed=True)
             + command.amount.to_bytes(8, "big") + command.premium.to_bytes(8, "big") + bytes(36))
 
 
-# kind, plan, age, years, number, day, amount, premium; after them nothing
+# kind, plan, age, years, number, day, amount, premium; the bytes after them are 0
 BODY = struct.Struct(">BBBBIiQQ")
 NOTHING = bytes(BODY_SIZE - BODY.size)
 
@@ -114,7 +114,7 @@ def day_in_record(days: int) -> datetime.date:
 
 
 def command_in(body: bytes) -> Command:
-    """The valid command that a record's body spells."""
+    """Returns the valid command that a record's body encodes, and raises Wrong if it encodes none."""
     code, plan, age, years, number, days, amount, premium = BODY.unpack_from(body)
     kind = KINDS.get(code)
     if kind is None:

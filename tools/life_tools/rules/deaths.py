@@ -1,7 +1,7 @@
-"""A death that the rules refuse: whether the policy was insured on the day of death, by what its journal had then.
+"""Advises on a death claim that the rules refuse: was the policy insured on the day of death, by its postings up to then?
 
-A claim whose day lies before the policy's last posting can't be posted of its day. Whether it may be posted at all depends on
-how the policy stood on the day of death, never on how it stands now: it may have been reinstated since.
+A claim cannot be posted for a day before the policy's last posting. Whether it may be posted at all depends on the policy's state
+on the day of death and never on its present state, since it may have been reinstated since.
 """
 from __future__ import annotations
 
@@ -13,12 +13,12 @@ from life_tools.common.formats import money
 from life_tools.rules.remedies import REFER
 from life_tools.rules.policies import Policy, Refusal, anniversary, changed, decide, issued
 
-# what leaves a policy insured as it was, but perhaps for another amount
+# kinds of postings that leave a policy insured, though perhaps for another amount
 HARMLESS = ("premium", "alter", "paidup")
 
 
 def after(commands: Sequence[Command]) -> Policy | None:
-    """The policy that its accepted commands leave, from its issue on."""
+    """Returns the policy after its accepted commands, which begin with its issue."""
     policy: Policy | None = None
     for command in commands:
         policy = changed(policy, command) if policy else issued(command)
@@ -34,7 +34,7 @@ def listed(commands: Sequence[Command]) -> str:
 
 
 def given_back(before: Policy, since: Sequence[Command], day: datetime.date) -> int:
-    """The premiums posted since that fell due after the day of death."""
+    """Returns the sum in cents of the premiums in `since` that fell due after the day of death."""
     paid, cents = before.paid, 0
     for command in since:
         if command.kind == "premium":
@@ -44,7 +44,7 @@ def given_back(before: Policy, since: Sequence[Command], day: datetime.date) -> 
 
 
 def told_late(before: Policy, now: Policy, since: Sequence[Command], day: datetime.date) -> str:
-    """What to do about a death that was insured, since which only premiums and reductions were posted."""
+    """Returns the advice for a death that was insured, if only premiums and reductions were posted since."""
     cents = given_back(before, since, day)
     back = f"; give back {money(cents)} outside" if cents else ""
     less = before.amount - now.amount
@@ -53,7 +53,7 @@ def told_late(before: Policy, now: Policy, since: Sequence[Command], day: dateti
 
 
 def standing(commands: Sequence[Command], death: Command) -> str:
-    """What is to be done about a death, by all accepted commands of its policy."""
+    """Returns the advice on a death, given all accepted commands of its policy."""
     day = death.on
     up_to = [command for command in commands if command.on <= day]
     before, at_end = after([command for command in up_to if command.on < day]), after(up_to)

@@ -1,7 +1,7 @@
-"""The rules of policies, in one place: what a command makes of a policy, or why it is refused; the book; the accounts.
+"""Decides by the rules of policies what a command makes of a policy or why it is refused; keeps the book and the accounts.
 
-Written from docs/reference/rules.md ("The rules") and docs/reference/script.md alone. A change of a rule is made here, and in
-`policy_columns.py`, which has the checks over columns.
+Written from docs/reference/rules.md ("The rules") and docs/reference/script.md alone. A rule that changes is changed here and in
+`policy_columns.py`, which has the same checks over columns.
 """
 from __future__ import annotations
 
@@ -13,7 +13,7 @@ from typing import Iterable, Iterator, NamedTuple, Union
 from life_tools.rules.commands import LAST_AGE, Command
 from life_tools.common.formats import MOST_COMMANDS, Wrong, money
 
-# days of grace after a premium was due, days before it is due from which on it may be paid, and the anniversaries
+# the days of grace after a premium is due, the days before the due day from which it may be paid, and the number of anniversaries
 # after the last paid one up to which a lapsed policy can be reinstated
 GRACE = datetime.timedelta(31)
 EARLY = datetime.timedelta(90)
@@ -25,7 +25,7 @@ Value = Union[datetime.date, int, str, None]
 
 @dataclass(frozen=True, slots=True)
 class Policy:
-    """A policy as it is: amounts are in cents, `paid` is a number of premiums, `last` the day of its last command."""
+    """A policy at one moment: amounts are in cents, `paid` is the number of premiums paid, `last` the day of its last command."""
 
     number: int
     plan: str
@@ -41,7 +41,7 @@ class Policy:
 
 
 class Refusal(NamedTuple):
-    """The first reason that applies, and its value: a day, an amount in cents, a status, or none."""
+    """The first reason that applies, and its value: a day, an amount in cents, a status, or None."""
 
     word: str
     value: Value = None
@@ -55,7 +55,7 @@ class Refusal(NamedTuple):
 # --- days of a policy ---
 
 def anniversary(day: datetime.date, years: int) -> datetime.date:
-    """So many years later; of a 29 February the 28th in a year that has none."""
+    """Returns the anniversary after so many years; for a 29 February it is the 28th in a year that is not a leap year."""
     try:
         return day.replace(year=day.year + years)
     except ValueError:
@@ -63,14 +63,14 @@ def anniversary(day: datetime.date, years: int) -> datetime.date:
 
 
 def completed(issued: datetime.date, on: datetime.date) -> int:
-    """The whole years from a day to a later one."""
+    """Returns the number of whole years from a day to a later one."""
     years = on.year - issued.year
     return years if anniversary(issued, years) <= on else years - 1
 
 
 @lru_cache(maxsize=None)
 def cover_of(plan: str, age: int, years: int) -> tuple[int, int]:
-    """The years of cover of a plan, and its yearly premiums."""
+    """Returns the years of cover of a plan, and the number of its yearly premiums."""
     to_end = LAST_AGE - age
     return years if plan in ("term", "endowment") else to_end, to_end if plan == "whole" else years
 
@@ -88,13 +88,13 @@ def end_of(policy: Policy) -> datetime.date:
 
 
 def due_of(policy: Policy) -> datetime.date | None:
-    """The day on which the next premium is due, or none where all are paid or the policy is paid up."""
+    """Returns the day on which the next premium is due, or None if all are paid or the policy is paid up."""
     none = policy.status == "paidup" or policy.paid >= payments_of(policy)
     return None if none else anniversary(policy.issued, policy.paid)
 
 
 def missed_by(policy: Policy, day: datetime.date) -> int:
-    """How many premiums that weren't paid were due up to the day."""
+    """Returns how many unpaid premiums fell due up to and including the day."""
     missed = 0
     while policy.paid + missed < payments_of(policy) and anniversary(policy.issued, policy.paid + missed) <= day:
         missed += 1
@@ -108,7 +108,7 @@ STATUSES = {"reinstate": ("lapsed",), "settle": ("claimed", "matured"), "claim":
 
 
 def reasons(policy: Policy, command: Command) -> Iterator[tuple[bool, Refusal]]:
-    """What a command on a policy may be refused for, in order: whether it applies, and the refusal."""
+    """Yields the reasons for which a command may be refused, in their order: whether the reason applies, and the refusal."""
     kind, day = command.kind, command.on
     due, end = due_of(policy), end_of(policy)
     over = day >= end, Refusal("termover", end)
@@ -150,7 +150,7 @@ def reasons(policy: Policy, command: Command) -> Iterator[tuple[bool, Refusal]]:
 
 
 def changed(policy: Policy, command: Command) -> Policy:
-    """The policy after an accepted command."""
+    """Returns the policy after an accepted command."""
     kind, last = command.kind, command.on
     if kind == "premium":
         return replace(policy, last=last, paid=policy.paid + 1)
@@ -171,13 +171,16 @@ def changed(policy: Policy, command: Command) -> Policy:
 
 
 def issued(command: Command) -> Policy:
-    """The policy that an issue opens."""
+    """Returns the policy that an issue opens."""
     day = command.on
     return Policy(command.number, command.plan, command.age, command.years, command.amount, command.premium, day, day)
 
 
 def decide(policy: Policy | None, command: Command) -> Refusal | Policy:
-    """The first reason to refuse a command on a policy, or on none; or the policy afterwards. No upgrade is decided here."""
+    """Returns the first reason to refuse the command, or the policy after it. `policy` is None if there is none yet.
+
+    An upgrade is not decided here.
+    """
     if command.kind == "issue":
         return Refusal("taken") if policy else issued(command)
     if policy is None:
@@ -192,11 +195,11 @@ def decide(policy: Policy | None, command: Command) -> Refusal | Policy:
 
 @dataclass(frozen=True)
 class Upgraded:
-    """What an upgrade that is accepted leaves: no policy."""
+    """What an accepted upgrade leaves: no policy."""
 
 
 class Book:
-    """The accepted commands, the policies that they leave, in order of issue, and the position of the upgrade, or 0."""
+    """The accepted commands, the policies after them in order of issue, and the position of the upgrade, or 0."""
 
     def __init__(self, commands: Iterable[Command] = ()) -> None:
         self.commands: list[Command] = []
@@ -206,7 +209,7 @@ class Book:
             self.post(command)
 
     def judge(self, command: Command) -> Refusal | Policy | Upgraded:
-        """The answer of the rules: what depends on the upgrade, and else what the policy decides."""
+        """Returns what the rules reply: it checks what depends on the upgrade, and otherwise what the policy's rules decide."""
         if command.kind == "upgrade":
             return Refusal("upgraded", str(self.upgrade)) if self.upgrade else Upgraded()
         if command.kind == "paidup" and not self.upgrade:
@@ -220,7 +223,7 @@ class Book:
         return answer
 
     def take(self, command: Command, after: Policy | Upgraded) -> None:
-        """Keeps a command that was accepted, and the policy that it left."""
+        """Keeps an accepted command and the policy after it."""
         self.commands.append(command)
         if isinstance(after, Policy):
             self.policies[command.number] = after
@@ -228,7 +231,7 @@ class Book:
             self.upgrade = len(self.commands)
 
     def post(self, command: Command) -> None:
-        """Keeps a command that must be accepted."""
+        """Posts a command that must be accepted, and raises Wrong if it is refused."""
         answer = self.decide(command)
         if isinstance(answer, Refusal):
             raise Wrong(f"command {len(self.commands) + 1} can't follow: {','.join(answer.words())}")
@@ -236,7 +239,7 @@ class Book:
 
 
 def booking_of(command: Command, after: Policy | None) -> dict[str, int]:
-    """What an accepted command books on the accounts, in cents, by the policy that it left, if it left one."""
+    """Returns what an accepted command books on each account, in cents; `after` is the policy after it, if it has one."""
     if after is None:
         return {}
     if command.kind in ("premium", "reinstate"):
@@ -249,7 +252,7 @@ def booking_of(command: Command, after: Policy | None) -> dict[str, int]:
 
 
 def bookings(commands: Iterable[Command]) -> Iterator[tuple[Command, dict[str, int]]]:
-    """Each command of a journal with what it books."""
+    """Yields each command of a journal with what it books."""
     book = Book()
     for command in commands:
         book.post(command)

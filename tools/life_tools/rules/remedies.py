@@ -1,8 +1,8 @@
-"""What a refusal means and what to do about it, for each kind of line; docs/reference/refusals.md shows the same table.
+"""States what a refusal means and what to do about it, for each kind of line; docs/reference/refusals.md shows the same table.
 
-A death or a maturity that the rules refuse for want of cover is never a reason to reinstate: a policy is put in force again
-only while the insured is alive. What the advice says to post is named beside it, in steps that can be carried out: each is
-accepted then. An advice without steps is to refer the case, or that nothing is to be posted.
+If the rules refuse a death or a maturity for want of cover, the advice is never to reinstate: a policy is put in force again only
+while the insured is alive. If the advice is to post something, the steps stand beside it, and each of them is then accepted. If
+an advice has no steps, it is to refer the case or to post nothing.
 """
 from __future__ import annotations
 
@@ -10,14 +10,17 @@ from typing import NamedTuple
 
 from life_tools.common.formats import KINDS, MOST_LANES, STATUSES, Wrong, demand, number_of
 
-# steps beside the kinds of line that are posted: the line itself, as it is or corrected, or posted elsewhere
+# steps other than a kind of line to post: the line itself again, unchanged or corrected, or in another book
 AGAIN, OTHER_NUMBER, OTHER_DAY, OTHER_AMOUNT, OTHER_BOOK = "again", "number", "day", "amount", "book"
 Steps = tuple[tuple[str, ...], ...]
 
 
 class Remedy(NamedTuple):
-    """The kinds of line that it is for; the reason, with the status of a `wrongstatus`; what it means; the advice; and what is
-    posted by it, where there are several ways one of these by how the policy stands."""
+    """The advice on a refusal.
+
+    It has the kinds of line that it is for; the reason, with the status if it is `wrongstatus`; what it means; the advice; and
+    the steps to post. If there is more than one sequence of steps, the policy's state decides which of them applies.
+    """
 
     kinds: tuple[str, ...]
     reason: str
@@ -41,7 +44,7 @@ IN_ARREARS = "`mature` it, or `lapse` it if it is in arrears"
 
 
 def of_status(status: str) -> tuple[Remedy, ...]:
-    """The remedies of lines on a policy that is claimed, matured, settled or expired."""
+    """Returns the remedies for lines on a policy that is claimed, matured, settled or expired."""
     reason, means = f"wrongstatus,{status}", {**POSTED, **IS_OVER}[status]
     if status in POSTED:
         return (
@@ -144,7 +147,7 @@ BY_PAIR = {(kind, remedy.reason): remedy for remedy in REMEDIES for kind in reme
 
 
 def remedy_of(kind: str, words: list[str]) -> Remedy:
-    """The advice on a line of this kind that was refused with these words, as `graceover` and a day."""
+    """Returns the advice on a line of this kind that was refused for a reason, such as `graceover` and a day."""
     reason = ",".join(words[:2]) if words[:1] == ["wrongstatus"] else words[0] if words else ""
     remedy = BY_PAIR.get((kind, reason))
     if remedy is None:
@@ -154,7 +157,7 @@ def remedy_of(kind: str, words: list[str]) -> Remedy:
 
 
 def is_refused(answer: str) -> bool:
-    """Whether a line of a transcript says that a line was refused."""
+    """Returns whether a line of a transcript says that a line of the script was refused."""
     return answer.split(",")[3:4] == ["refused"]
 
 
