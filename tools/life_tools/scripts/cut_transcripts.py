@@ -1,7 +1,7 @@
-"""What a run that was cut has printed: a prefix of its transcript.
+"""Reads what an interrupted run has printed: a prefix of its transcript.
 
-Its lines stand in the order of the turns in which they were answered, and an accepted one has its position. So it states
-how many rows of each lane are answered for certain, which records of the run are theirs, and where the run began.
+The lines stand in the order of the turns in which they were answered, and an accepted line has its position. So the prefix shows
+which rows of each lane were certainly answered, which records of the run are theirs, and where the run began.
 """
 from __future__ import annotations
 
@@ -15,22 +15,22 @@ from life_tools.scripts.transcript_check import Answer, is_block, is_whole
 
 @dataclass
 class Printed:
-    """The rows that are printed as answered; the commands of those accepted; and how many were accepted before the run,
-    if a line shows it."""
+    """The rows that are printed as answered, the commands that were accepted, and how many commands were accepted before the run
+    if a line shows that."""
 
     rows: set[int] = field(default_factory=set)
     answered: dict[int, int] = field(default_factory=dict)
     accepted: list[Command] = field(default_factory=list)
     begun: int | None = None
-    # what was answered `fault` or `nomemory`, with the row
+    # the rows that were answered `fault` or `nomemory`, each with that word
     unposted: list[tuple[str, Line]] = field(default_factory=list)
-    # the rows that found the book full
+    # the rows that were refused because the book was full
     full: list[Line] = field(default_factory=list)
-    # of those answered `fault` the ones after which none is accepted, of which one may be in the journal
+    # the commands answered `fault` after which none was accepted; one of them may be in the journal
     in_doubt: list[Command] = field(default_factory=list)
 
     def began(self, count: int, answer: list[str]) -> None:
-        """A line that states how many commands were accepted before it."""
+        """Takes a line that shows how many commands were accepted before it, and computes the count before the run from it."""
         begun = count - len(self.accepted)
         demand(begun >= 0 and self.begun in (None, begun), f"{','.join(answer)} has another position than the lines before")
         self.begun = begun
@@ -64,7 +64,8 @@ def counted(text: str, answer: list[str]) -> int:
 
 
 def whole_answers(text: str) -> list[Answer]:
-    """What is whole of a text that may be cut anywhere: its ended lines, but for those of a valuation without its total."""
+    """Returns the complete answers of a text that may end anywhere: its finished lines, without a valuation that lacks its
+    total."""
     answers: list[Answer] = []
     for row in text.split("\n")[:-1]:
         line = row.split(",")
@@ -80,7 +81,7 @@ def whole_answers(text: str) -> list[Answer]:
 
 
 def read_prefix(text: str, lines: list[Line]) -> Printed:
-    """What a prefix states of a script's lines."""
+    """Returns what a prefix of a transcript says about a script's lines."""
     printed, lanes = Printed(), lanes_of(lines)
     for answer in whole_answers(text):
         lane = number_of(answer[0][0], 1, 8) or 0

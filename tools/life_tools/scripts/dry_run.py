@@ -1,4 +1,4 @@
-"""A script tried on copies of a folder's journal and basis: the program is at work there while the journal is looked at."""
+"""Tries a script on copies of a folder's journal and basis; the program runs on them while the tool reads the journal."""
 from __future__ import annotations
 
 import os
@@ -15,7 +15,7 @@ from life_tools.journal.blocks import Blocks, prefix_at
 
 @dataclass(frozen=True)
 class Trial:
-    """The run, the folder's journal, its copy, and what was seen of the journal, where there is one."""
+    """The run, the folder's journal, its copy, and the blocks of the journal, or None if there is no journal."""
 
     ran: subprocess.Popen[bytes]
     path: str
@@ -24,16 +24,19 @@ class Trial:
 
     @property
     def seen(self) -> tuple[int, int] | None:
-        """The count and the length of the journal."""
+        """Returns the count and the length of the journal, or None if there is none."""
         return self.blocks.seen if self.blocks else None
 
     def records(self) -> tuple[bytes, int]:
-        """The copy's bytes, and how many records it had before the script; these stay as they are while the program posts."""
+        """Returns the copy's first bytes and how many records they hold, which were there before the script.
+
+        The program does not change them while it posts.
+        """
         count = self.seen[0] if self.seen else 0
         return prefix_at(self.copy, count), count
 
     def answer(self) -> tuple[int, str]:
-        """The status of the run, and the transcript."""
+        """Waits for the run and returns its status and its transcript."""
         return ended(self.ran)
 
 
@@ -44,7 +47,10 @@ def begun_with(script: str, desk: str, life: Sequence[str], basis: str) -> subpr
 
 @contextmanager
 def trial_of(script: str, folder: str, basis: str, life: Sequence[str]) -> Iterator[Trial]:
-    """A script's run on copies; while they are made and the journal's gates are looked at, no other run has the journal."""
+    """Starts a script's run on copies.
+
+    While they are made and the journal's commit bytes are read, no other run can use the journal.
+    """
     path = os.path.join(folder, JOURNAL)
     with private_copy(folder, basis) as desk, ExitStack() as held:
         copy = os.path.join(desk, JOURNAL)

@@ -1,4 +1,4 @@
-"""What is wrong with a script, a basis or a table: the line of an editor, what was found there, and what is wanted."""
+"""Explains what is wrong with a script, a basis or a table: the line in an editor, what was found there, and what is wanted."""
 from __future__ import annotations
 
 import os
@@ -12,7 +12,7 @@ from life_tools.tables.basis import MOST_AGE, BadBasis, NotXml, basis_rows, read
 SHOWN = 60
 BASIS_ROW = ("a row: a day 1900-01-01 to 2199-12-31, the file name of a table (1 to 64 letters, digits, . _ -, the first a "
              f"letter or a digit), and basis points 0 to {MOST_POINTS} without a leading zero")
-# what is wanted in a table's file where a check applies
+# what is wanted in a table's file, by the word of the check that failed
 WANTED = {
     "notdocument": ("an XML document: this tag, comment or byte may not stand here, or the file ends too early "
                     "(no DOCTYPE, no CDATA)"),
@@ -37,13 +37,13 @@ CURES = {
 
 
 def line_and_column(data: bytes, place: int) -> tuple[int, int]:
-    """The line of an editor and the byte in it, both from 1, of a place in a file."""
+    """Returns the line in an editor and the byte in that line, both from 1, for a place in a file."""
     before = data[:place].replace(b"\r\n", b" \n").replace(b"\r", b"\n")
     return before.count(b"\n") + 1, place - (before.rfind(b"\n") + 1) + 1
 
 
 def shown(data: bytes) -> str:
-    """The beginning of a text, on one line."""
+    """Returns the beginning of a text's first line."""
     text = data.split(b"\n")[0].rstrip(b"\r").decode("utf-8", "backslashreplace")
     return text[:SHOWN] + (" .." if len(text) > SHOWN else "")
 
@@ -72,7 +72,7 @@ def row_of(path: str, number: int) -> Row:
 
 
 def explain_file(name: str, path: str, place: int, word: str) -> None:
-    """A basis file or a table that is absent or too long."""
+    """Explains a basis file or a table that is absent or too long."""
     whose = f", which row {place} of the basis names" if place else ""
     print(f"{name}{whose}: ", end="")
     if word == "absent":
@@ -113,7 +113,7 @@ def explain_table_place(path: str, place: int, word: str) -> None:
 
 
 def check_word(data: bytes, name: str, place: int, word: str) -> str:
-    """Demands that the file has this fault, where the parser can tell; and says what the parser says."""
+    """Raises Wrong if the parser can tell that the file does not have this fault; returns what an XML parser says, or ""."""
     try:
         read_table(data, name)
     except BadBasis as bad:
@@ -145,7 +145,7 @@ def explain_basis(answer: str, folder: str) -> None:
 # --- a table ---
 
 class NotTaken(Wrong):
-    """A table's file that the program doesn't take."""
+    """A table's file that the program does not take."""
 
 
 def explain_table(path: str) -> None:

@@ -43,14 +43,14 @@ from life_tools.rules.policies import GRACE, Policy, anniversary, completed, dec
 
 FIELDS = ("number", "day", "plan", "age", "birth", "years", "amount", "premium", "paid", "paid-to", "status", "reduced", "class")
 WANTED = ("number", "day", "plan", "years", "amount", "premium")
-# of which one is wanted, and not both
+# pairs of fields of which exactly one is wanted
 EITHER = (("age", "birth"), ("paid", "paid-to"))
 DAYS, AMOUNT_FIELDS = ("day", "birth", "paid-to"), ("amount", "premium", "reduced")
 LEFT = "left"
 STATES = ("inforce", "lapsed", "paidup", LEFT)
 NEAREST, LAST = "nearest", "last"
 DAY_PARTS = {"YYYY": "(?P<year>[0-9]{4})", "MM": "(?P<month>[0-9]{1,2})", "DD": "(?P<day>[0-9]{1,2})"}
-# how an amount is written in the map -> what stands between thousands, and before the cents
+# how an amount is written in the map -> the separator of thousands, and the one before the cents
 AMOUNTS = {"1234.56": ("", "."), "1234,56": ("", ","), "1,234.56": (",", "."), "1.234,56": (".", ","), "1 234,56": (" ", ","),
            "1'234.56": ("'", "."), "cents": ("", "")}
 MOST_PAID = 131
@@ -58,7 +58,7 @@ MOST_PAID = 131
 
 @dataclass
 class Map:
-    """What the fields are taken from: of each its column and how it is written; and the plan of each word."""
+    """What the fields are taken from: for each its column and its format; and the plan or the state that each word means."""
 
     separator: str = ","
     column: dict[str, str] = field(default_factory=dict)
@@ -67,7 +67,7 @@ class Map:
     state_of: dict[str, str] = field(default_factory=dict)
 
     def take(self, fields: tuple[str, ...]) -> None:
-        """Takes a row of the map."""
+        """Takes one row of the map."""
         what, given, form = fields[0], fields[1] if len(fields) > 1 else "", ",".join(fields[2:])
         demand(given, f"{what} has nothing after it")
         if what == "separator":
@@ -118,7 +118,7 @@ def map_at(path: str) -> Map:
 # --- the fields of a row ---
 
 def whole_in(text: str, least: int, most: int, what: str) -> int:
-    """Digits, of which those before may be 0, as other systems fill them up."""
+    """Returns the number of a text of digits; unlike in a script, zeros may precede it, as other systems write them."""
     demand(re.fullmatch("[0-9]{1,18}", text), f"the {what} is {text or 'empty'}")
     demand(least <= int(text) <= most, f"the {what} is {text}, and {least} to {most} can be")
     return int(text)
@@ -148,7 +148,7 @@ def cents_in_form(text: str, form: str, what: str) -> int:
 
 @dataclass(frozen=True)
 class Foreign:
-    """A row of another system's file: where it begins, its text, and its fields by the names of the columns."""
+    """A row of another system's file: the line where it begins, its text, and its fields by the names of the columns."""
 
     line: int
     text: str
@@ -156,14 +156,17 @@ class Foreign:
 
 
 def age_of(born: datetime.date, day: datetime.date, way: str) -> int:
-    """The age on a day: that of the last birthday; or of the nearest one, and of two that are as near the earlier one."""
+    """Returns the age on a day: at the last birthday, or at the nearest one.
+
+    If two birthdays are equally near, the earlier counts.
+    """
     age = completed(born, day)
     is_later_nearer = anniversary(born, age + 1) - day < day - anniversary(born, age)
     return age + 1 if way == NEAREST and is_later_nearer else age
 
 
 class Reading:
-    """Reads rows by a map; a day of birth makes an age by the last or the nearest birthday."""
+    """Reads rows by a map. If the map has the day of birth, the age is that at the last or at the nearest birthday."""
 
     def __init__(self, given: Map, ages: str = LAST) -> None:
         self.map, self.ages = given, ages
@@ -200,7 +203,7 @@ class Reading:
         return Command("issue", self.number(row), day, plan, age, term, amount, premium)
 
     def paid(self, row: Foreign, policy: Policy) -> int:
-        """The number of premiums that were paid."""
+        """Returns the number of premiums that were paid."""
         if "paid" in self.map.column:
             count = whole_in(self.text(row, "paid"), 0, MOST_PAID, "number of premiums paid")
         else:
@@ -222,7 +225,8 @@ class Reading:
         return state
 
     def ending(self, row: Foreign, policy: Policy, state: str) -> Command | None:
-        """What makes a policy lapsed or paid up: on the first day that takes the lapse; on the day of the next premium."""
+        """Returns the command that makes the policy lapsed, on the first day that allows it, or paid up, on the next due day;
+        else None."""
         due = due_of(policy)
         if state == "inforce":
             return None
@@ -242,7 +246,10 @@ class Reading:
         return self.text(row, "class")
 
     def commands(self, row: Foreign) -> list[Command]:
-        """The issue of a row, its premiums, each on its due day, and what it ended with; the rules have to take them all."""
+        """Returns the issue of a row, its premiums, each on its due day, and its lapse or `paidup`.
+
+        The rules must accept all of them.
+        """
         issue, state = self.issue(row), self.state(row)
         policy = taken_by(None, issue, "the issue")
         made = [issue]
@@ -258,7 +265,7 @@ class Reading:
 
 
 def taken_by(policy: Policy | None, command: Command, what: str) -> Policy:
-    """The policy after a command, which the rules have to take."""
+    """Returns the policy after a command, and raises Wrong if the rules refuse the command."""
     after = decide(policy, command)
     if not isinstance(after, Policy):
         raise Wrong(f"{what} would be refused: {','.join(after.words())}")
@@ -266,15 +273,15 @@ def taken_by(policy: Policy | None, command: Command, what: str) -> Policy:
 
 
 def is_utf8(text: str) -> bool:
-    """Whether a text that was read with its stray bytes has none."""
+    """Returns whether a text that was read with surrogates for stray bytes has no such byte."""
     return not re.search("[\udc80-\udcff]", text)
 
 
 def foreign_rows(path: str, separator: str, columns: list[str]) -> Iterator[Foreign]:
-    """The rows of a file, which has to have the columns; a field more or less is a row that can't be read."""
+    """Yields the rows of a file, which must have the columns. A row with too few or too many fields gets no fields."""
     text = text_of(bytes_of(path))
     demand("\0" not in text, f"{path} is no CSV: it has a byte 0")
-    # not splitlines, which ends a line at a form feed and at U+2028 too, as they stand in names that were pasted
+    # splitlines would also end a line at a form feed and at U+2028, which occur in pasted names
     read = csv.reader(io.StringIO(text, newline=""), delimiter=separator)
     head = [name.strip() for name in next(read, [])]
     demand(len(set(head)) == len(head), f"{path}: two columns have one name")
@@ -291,14 +298,17 @@ def foreign_rows(path: str, separator: str, columns: list[str]) -> Iterator[Fore
 
 @dataclass
 class Mapped:
-    """What became of a file: the commands of each policy and its class, and the rows that are left, each with the reason."""
+    """The result for a file: the commands and the class of each policy, and the rows that were left out, each with the reason."""
 
     policies: list[list[Command]] = field(default_factory=list)
     classes: list[tuple[int, str]] = field(default_factory=list)
     left: list[tuple[Foreign, str]] = field(default_factory=list)
 
     def commands(self) -> list[Command]:
-        """Sorted by day; of a day in the order of the file, an issue before its premium; an upgrade first, if one is needed."""
+        """Returns the commands sorted by day; those of one day keep the order of the file.
+
+        An issue therefore stays before its premium. If a policy is paid up, an upgrade comes first.
+        """
         key: Callable[[Command], str] = lambda command: str(command.day)
         found = sorted((command for policy in self.policies for command in policy), key=key)
         return [UPGRADE, *found] if any(command.kind == "paidup" for command in found) else found

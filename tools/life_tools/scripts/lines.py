@@ -1,4 +1,5 @@
-"""A script's lines, or its first fault: the row, the field, what was found and what is wanted (docs/reference/script.md)."""
+"""Reads a script's lines, or its first fault: the row, the field, what was found and what is wanted
+(docs/reference/script.md)."""
 from __future__ import annotations
 
 import datetime
@@ -16,7 +17,10 @@ KIND_WORDS = (*FIELDS, "value", "trim")
 
 @dataclass(frozen=True, slots=True)
 class Line:
-    """A clerk's line: a posting has a command; a valuation a day, and a position or none for `now`; a trim neither."""
+    """A clerk's line.
+
+    A posting has a command; a valuation has a day and a position, which is None for `now`; a trim has neither.
+    """
 
     row: Row
     lane: int
@@ -27,20 +31,23 @@ class Line:
 
     @property
     def head(self) -> list[str]:
-        """The fields with which its answer begins: lane, kind, and the policy's number (0 of an upgrade) or the day."""
+        """Returns the fields with which the answer begins: lane, kind, and the policy's number (0 for an upgrade) or the day."""
         fields = self.row.fields
         return [*fields[:2], "0"] if self.kind == "upgrade" else list(fields[:3])
 
     @property
     def posted(self) -> Command:
-        """The command of a line that posts."""
+        """Returns the command of a line that posts."""
         assert self.command is not None
         return self.command
 
 
 @dataclass(frozen=True)
 class Fault:
-    """The first row that is no line, and its first field that doesn't fit, from 1; no row where the script is too long."""
+    """The first row that is not a line, and its first field that does not fit, from 1.
+
+    The row is None if the script is too long.
+    """
 
     row: Row | None
     field: int
@@ -52,19 +59,19 @@ class Fault:
 
     @property
     def found(self) -> str:
-        """What stands in the field, or that nothing does."""
+        """Returns what stands in the field, or that the row has ended."""
         if self.row is None or self.field > len(self.row.fields):
             return "the row has ended"
         return self.row.fields[self.field - 1]
 
 
-# what a field is read as, or None where it doesn't fit: a text, a number or a day
+# the value that was read from a field: a text, a number or a day; None if the field does not fit
 Read = Any
 
 
 @dataclass(frozen=True)
 class Wanted:
-    """A field of a kind of line: its name, how it reads, by the fields that were read before it, and what is wanted."""
+    """A field of a kind of line: its name, how it is read (given the fields before it), and what is wanted in it."""
 
     name: str
     read: Callable[[str, dict[str, Read]], Read]
@@ -101,14 +108,14 @@ WORKERS = number("workers", 1, MOST_WORKERS, "the workers")
 POSTED = {"plan": PLAN, "age": AGE, "years": YEARS, "amount": amount("amount"), "premium": amount("premium")}
 
 
-# the fields of a kind after lane and kind
+# the fields of each kind after the lane and the kind
 WANTED_OF = {kind: [NUMBER, DAY, *(POSTED[name] for name in fields)] for kind, fields in FIELDS.items()}
 WANTED_OF.update(value=[DAY, POSITION, WORKERS], trim=[], upgrade=[],
                  reinstate=[NUMBER, DAY, amount("amount", MOST_REINSTATEMENT_CENTS)])
 
 
 def line_of(row: Row, valuations: int) -> Line | Fault:
-    """The line of a row that follows so many valuations, or its fault."""
+    """Returns the line of a row, or its fault; `valuations` is the number of valuations before it."""
     fields = row.fields
     lane = number_of(fields[0], 1, MOST_LANES)
     if lane is None:
@@ -139,7 +146,7 @@ def made(row: Row, lane: int, kind: str, read: dict[str, Read]) -> Line:
 
 
 def read_script(data: bytes) -> list[Line] | Fault:
-    """The lines of a script in their order, or its first fault."""
+    """Returns the lines of a script in their order, or its first fault."""
     if len(data) > MOST_SCRIPT_BYTES:
         return Fault(None, 0, f"at most {MOST_SCRIPT_BYTES} bytes; there are {len(data)}")
     lines, valuations = [], 0
@@ -157,7 +164,7 @@ def read_script(data: bytes) -> list[Line] | Fault:
 
 
 def lines_in(data: bytes, path: str = "the script") -> list[Line]:
-    """The lines of what has to be a script."""
+    """Returns the lines of a script, and raises Wrong if the bytes are not a script."""
     lines = read_script(data)
     if isinstance(lines, Fault):
         raise Wrong(f"{path} is {lines.answer}, so nothing of it is posted")
@@ -165,12 +172,12 @@ def lines_in(data: bytes, path: str = "the script") -> list[Line]:
 
 
 def script_at(path: str) -> list[Line]:
-    """The lines of a file, which has to be a script."""
+    """Returns the lines of a file, and raises Wrong if it is not a script."""
     return lines_in(bytes_of(path), path)
 
 
 def lanes_of(lines: list[Line]) -> dict[int, list[Line]]:
-    """Each clerk's lines, in order."""
+    """Returns the lines of each lane, in order."""
     lanes: dict[int, list[Line]] = {}
     for line in lines:
         lanes.setdefault(line.lane, []).append(line)

@@ -1,12 +1,12 @@
-"""The rows of a script that a killed run didn't reach.
+"""Finds the rows of a script that an interrupted run did not reach.
 
-What a killed run had accepted stands in the journal, and a lane's rows are answered in their order. So of each lane the
-rows up to the last one that the journal shows were answered, and the rest is to be run. Where what it printed is there,
-too, the rows that are answered in it are so for certain, and only the records after it are to be dealt out.
+The journal has what the interrupted run had accepted, and a lane's rows are answered in their order. So in each lane, the rows up
+to the last one that the journal shows were answered, and the rows after it are to be run. If the transcript is there as well, the
+rows answered in it are certain, and only the later records have to be assigned to rows.
 
-A record doesn't say whose it is. Where equal rows stand in several lanes, the records are dealt out so that each row
-in between was refused at some moment, or asked for a value or a trim: the killed run together with the rest is then one
-run of the whole script.
+A record does not say from which lane it came. If equal rows stand in several lanes, the records are assigned so that each row
+that is passed over was refused at some moment, or is a valuation or a trim: the interrupted run together with the rest is then a
+possible run of the whole script.
 """
 from __future__ import annotations
 
@@ -24,29 +24,29 @@ from life_tools.common.progress import Progress
 from life_tools.rules.policies import Book, Policy, Refusal, Upgraded, decide
 from life_tools.scripts.lines import Line, lanes_of
 
-# how many records may be dealt out anew, after a lane to which one was dealt couldn't go on
+# how many records may be assigned again after an assignment turned out to be impossible
 MOST_AGAIN = 1_000_000
-# how many rows of a lane are answered, and after how many records of the run the last of them was
+# how many rows of a lane are answered, and after how many records of the run the last of them was answered
 Stand = Tuple[int, int]
 Stands = Dict[int, Stand]
-# which lane posted a record, and where it stands then
+# the lane that posted a record, and where the lane stands after it
 Way = Tuple[int, Stand]
 
 
 class NoRun(Wrong):
-    """No run of the script leaves the journal."""
+    """No run of the script leaves this journal."""
 
 
 class History(Book):
-    """The book with what the run has made of it: each policy of the run after so many of its records."""
+    """The book together with its history in the run: what each policy was after any number of the run's records."""
 
     def __init__(self, begun: int, commands: Iterable[Command] = ()) -> None:
-        """Before the run there were so many commands."""
+        """`begun` is the number of commands before the run."""
         self.begun = begun
-        # of each policy of the run: after how many records it changed, and what it was from then on
+        # for each policy that the run changed: the numbers of records after which it changed, and what it was from then on
         self.moments: dict[int, list[int]] = {}
         self.states: dict[int, list[Policy | None]] = {}
-        # after how many of the records there is an upgrade, if there is one
+        # the number of records after which the journal is upgraded, or None if it never is
         self.upgraded: int | None = None
         super().__init__(commands)
 
@@ -68,7 +68,8 @@ class History(Book):
         return self.commands[self.begun + n]
 
     def refused_in(self, command: Command, moment: int, last: int) -> int | None:
-        """The first moment from one to another at which the command is refused: after so many records."""
+        """Returns the first moment from `moment` to `last` at which the command is refused, or None; moments count the run's
+        records."""
         if command.kind in ("upgrade", "paidup"):
             upgraded = self.records + 1 if self.upgraded is None else self.upgraded
             if command.kind == "upgrade":
@@ -80,7 +81,7 @@ class History(Book):
         return self.refused_by(command, moment, last)
 
     def refused_by(self, command: Command, moment: int, last: int) -> int | None:
-        """The same of a policy that the run has changed."""
+        """Does the same for a policy that the run has changed."""
         moments, states = self.moments[command.number], self.states[command.number]
         for place in range(bisect_right(moments, moment) - 1, len(moments)):
             if moments[place] > last:
@@ -91,11 +92,11 @@ class History(Book):
 
 
 def history_in(columns: Columns, begun: int, lines: Iterable[Line]) -> History:
-    """The history of the policies of a script and of a run, which began after so many commands of a journal."""
+    """Returns the history of the policies that a script or its run names; the run began after `begun` commands of the journal."""
     demand(begun <= columns.count, f"the journal has {columns.count} commands, and before the run there were {begun}")
     records, script = columns.records, {line.command.number for line in lines if line.command}
     numbers = np.union1d(np.array(sorted(script), np.uint32), records.number[begun:])
-    # an upgrade, which has the number 0, bears on each of them
+    # an upgrade, which has the number 0, concerns all of them
     is_of_them = (np.isin(records.number, numbers) | (records.number == 0))[:begun]
     before = np.flatnonzero(is_of_them)
     history = History(len(before), records.commands(before))
@@ -105,16 +106,16 @@ def history_in(columns: Columns, begun: int, lines: Iterable[Line]) -> History:
 
 
 class Passage:
-    """A lane's rows from where it stands, as far as they can have been answered without one being accepted."""
+    """A lane's rows from where it stands, as far as they can have been answered without any of them being accepted."""
 
     def __init__(self, history: History, lines: list[Line], stand: Stand) -> None:
         self.history, self.lines, self.stand = history, lines, stand
-        # the least moment at which so many rows are answered, and up to which one the next row isn't refused
+        # moments[n] is the least moment at which n rows are answered; up to `looked`, the next row is not refused
         self.moments = [stand[1]]
         self.looked = stand[1]
 
     def passes(self, rows: int, record: int) -> bool:
-        """Whether so many rows can have been answered before a record."""
+        """Returns whether the next `rows` rows can have been answered before a record."""
         while len(self.moments) <= rows and self.moments[-1] <= record:
             moment = self.answered(self.lines[self.stand[0] + len(self.moments) - 1], record)
             if moment is None:
@@ -125,7 +126,10 @@ class Passage:
         return len(self.moments) > rows and self.moments[rows] <= record
 
     def answered(self, line: Line, record: int) -> int | None:
-        """The least moment at which a row is answered and not accepted; a value and a trim are so at once."""
+        """Returns the least moment at which a row is answered without being accepted, or None.
+
+        A value or a trim is answered at once.
+        """
         if line.command is None:
             return self.moments[-1]
         return self.history.refused_in(line.command, self.looked, record) if self.looked <= record else None
@@ -133,7 +137,7 @@ class Passage:
 
 @dataclass
 class Choice:
-    """A record that several rows may be: how the lanes stood before it, and the ways that weren't gone yet."""
+    """A record that several rows may have posted: the state of the lanes before it, and the ways that were not tried yet."""
 
     record: int
     stands: Stands
@@ -141,11 +145,11 @@ class Choice:
 
 
 class Search:
-    """Deals the records out to the lanes: of each lane, how many of its rows are answered, and when the last one was."""
+    """Assigns the records to lanes. For each lane it keeps how many rows are answered, and when the last one was."""
 
     def __init__(self, lanes: dict[int, list[Line]], history: History) -> None:
         self.lanes, self.history = lanes, history
-        # of each command, in which places of which lanes it stands
+        # for each command, the lanes in which it stands, and its places there
         self.places: dict[Command, dict[int, list[int]]] = {}
         for lane, lines in lanes.items():
             self.place_all(lane, lines)
@@ -159,15 +163,15 @@ class Search:
                 self.places.setdefault(line.command, {}).setdefault(lane, []).append(place)
 
     def passage(self, lane: int, stand: Stand) -> Passage:
-        """The lane's rows from where it stands; what was found out of them is kept until it stands elsewhere."""
+        """Returns the passage of a lane from where it stands; the results are kept until the lane stands elsewhere."""
         known = self.passages.get(lane)
         if known is None or known.stand != stand:
             known = self.passages[lane] = Passage(self.history, self.lanes[lane], stand)
         return known
 
     def ways(self, stands: Stands, record: int) -> Iterator[Way]:
-        """The ways to deal a record out: the lanes in order, and of each the rows that are it, where those before them can
-        have been answered by then."""
+        """Yields the ways to assign a record: lane by lane, each row that equals it, if the rows before it can have been
+        answered."""
         for lane, places in self.places.get(self.history.record(record), {}).items():
             yield from ((lane, stand) for stand in self.steps(lane, places, stands[lane], record))
 
@@ -178,7 +182,7 @@ class Search:
             yield places[at] + 1, record + 1
 
     def first_way(self, stands: Stands, record: int) -> Way | None:
-        """The first way on from here; the others are kept, for when it leads nowhere."""
+        """Returns the first way from here, or None. If there are others, they are kept in case the first one leads nowhere."""
         ways = self.ways(stands, record)
         first, second = next(ways, None), next(ways, None)
         if first is None or second is None:
@@ -191,7 +195,7 @@ class Search:
         return first
 
     def other_way(self, record: int) -> tuple[Choice, Way]:
-        """The last choice that has a way left."""
+        """Returns the last choice that has a way left, with that way."""
         while self.choices:
             way = next(self.choices[-1].ways, None)
             if way is not None:
@@ -201,8 +205,10 @@ class Search:
                     f"{','.join(words_of(self.history.record(record)))}, which is command {record + 1} of the run")
 
     def run(self, answered: dict[int, int], record: int) -> Stands:
-        """The first way to deal the records from one on out, depth first, where so many rows of each lane are answered
-        before; where a choice was come to before, it isn't made again."""
+        """Assigns the records from `record` on by a depth-first search, and returns where each lane stands at the end.
+
+        `answered` has the number of rows of each lane that are answered before. A choice that was met before is not tried again.
+        """
         stands: Stands = {lane: (answered.get(lane, 0), record) for lane in self.lanes}
         farthest, steps = record, 0
         progress = Progress("dealing the records out", self.history.records)
@@ -223,20 +229,23 @@ class Search:
 
 
 def demand_records(printed: Printed, history: History) -> None:
-    """Demands that the run's records begin with what is printed as accepted."""
+    """Raises NoRun unless the run's records begin with the commands that are printed as accepted."""
     for place, command in enumerate(printed.accepted):
         if place >= history.records or history.record(place) != command:
             raise NoRun(f"{','.join(words_of(command))} is printed as accepted, and isn't command {place + 1} of the run")
 
 
 def dealt_by(printed: Printed, history: History) -> int:
-    """How many of the run's records are those of printed lines: a faulted line's is there, if at all, after all others."""
+    """Returns how many of the run's records belong to printed lines.
+
+    The record of a line that was answered `fault`, if there is one, comes after all others.
+    """
     count = len(printed.accepted)
     return count + (history.records == count + 1 and history.record(count) in printed.in_doubt)
 
 
 def rest_of(lines: list[Line], history: History, printed: Printed | None = None) -> dict[int, list[Line]]:
-    """Of each lane the rows that are to be run, after those that are printed as answered."""
+    """Returns for each lane the rows that are still to be run, after those that are printed as answered."""
     lanes, printed = lanes_of(lines), printed or Printed()
     stands = Search(lanes, history).run(printed.answered, dealt_by(printed, history))
     return {lane: lanes[lane][answered:] for lane, (answered, _) in stands.items()}

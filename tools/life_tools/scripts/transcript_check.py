@@ -1,10 +1,9 @@
-"""Whether what `life run` printed for a script is right, and what it left in the journal.
+"""Checks whether what `life run` printed for a script is right, and what it left in the journal.
 
-The lines in their order have to be one history: each clerk's rows are answered once and in order;
-a posting is accepted at the next position, or refused for the first reason that the rules have; a valuation shows the
-book at its position, with bounds around the exact values; a trim's floor is the position of a pin that may be live, or
-the count. The journal afterwards holds what was accepted, and nothing else. Runs that met a fault of the disk or found
-no memory aren't checked.
+The lines in their order must be one legal history: each clerk's rows are answered once and in order; a posting is accepted at the
+next position, or refused for the first reason that the rules have; a valuation shows the book at its position, with bounds around
+the exact values; the floor of a trim is the position of a pin that may be live, or the count. The journal afterwards has exactly
+what was accepted. Runs that met a fault of the disk or ran out of memory are not checked.
 """
 from __future__ import annotations
 
@@ -33,7 +32,7 @@ def is_whole(answer: Answer) -> bool:
 
 
 def answers_in(transcript: str) -> tuple[list[Answer], list[list[str]]]:
-    """The lines in order, each with the rows and the total after it where it is a valuation's, and the watchers' lines."""
+    """Returns the answers in order, a valuation's with its rows and its total, and the lines of the watchers."""
     demand(transcript.endswith("\n") or not transcript, "the last line isn't ended")
     answers: list[Answer] = []
     watchers: list[list[str]] = []
@@ -53,7 +52,7 @@ def answers_in(transcript: str) -> tuple[list[Answer], list[list[str]]]:
 
 
 class Run:
-    """The lines so far: what they leave of the script, of the book, of the pins that may be live, and of the floor."""
+    """The state after the lines so far: what is left of the script, the book, the pins that may be live, and the floor."""
 
     def __init__(self, lines: list[Line], book: Book, basis: Sequence[BasisRow], known: Known) -> None:
         self.left = lanes_of(lines)
@@ -66,7 +65,7 @@ class Run:
         lane = number_of(head[0], 1, 8) or 0
         demand(self.left.get(lane) and len(head) > 2, f"clerk {head[0]} has no row left for {head}")
         line = self.left[lane].pop(0)
-        # the clerk's last valuation has given up its pin by now
+        # the valuation before this line of the clerk has given up its pin by now
         self.pins.pop(lane, None)
         demand(head[1] == line.kind, f"{head} answers {line.row.text}")
         if line.command:
@@ -92,7 +91,7 @@ class Run:
         floor = number_of(head[2], 0, count) if len(head) == 3 else None
         if floor is None:
             raise Wrong(f"{head} is no trim's line, where {count} commands are accepted")
-        # a pin that may be live is one of which it isn't known that it was given up; where it is the least, it was live
+        # a pin may be live if it is not known to be given up; if the floor is its position, it was live
         demand(floor == count or floor in self.pins.values(),
                f"{head}: the count is {count}, and pins that may be live are at {sorted(self.pins.values())}")
         self.floor = floor
@@ -114,7 +113,7 @@ class Run:
 
 
 def check_journal(after: Journal, commands: list[Command]) -> None:
-    """Demands that the journal holds just these commands."""
+    """Raises Wrong unless the journal has exactly these commands."""
     demand(not after.refused, f"the journal after the run: {after.refused}: {after.why}")
     found = after.commands
     for position, (command, wanted) in enumerate(zip(found, commands), 1):
@@ -125,8 +124,10 @@ def check_journal(after: Journal, commands: list[Command]) -> None:
 
 def check_run(lines: list[Line], transcript: str, begun: Book, after: Journal, basis: Sequence[BasisRow],
               known: Known | None = None) -> int:
-    """Checks the text of a script's transcript, from the book before the run, which it takes on, to the journal after it;
-    says how many lines there are, or raises `Wrong`. `known` keeps exact values for further calls."""
+    """Checks a script's transcript against the book before the run, which it changes, and the journal after it.
+
+    Returns the number of answers, or raises `Wrong`. `known` keeps exact values for further calls.
+    """
     run = Run(lines, begun, basis, {} if known is None else known)
     answers, watchers = answers_in(transcript)
     for answer in answers:
@@ -142,9 +143,9 @@ def check_run(lines: list[Line], transcript: str, begun: Book, after: Journal, b
 # --- a run that was cut ---
 
 def prefix_of(transcript: str) -> tuple[str, int]:
-    """The lines of a transcript that are whole, without a valuation that has no total; and how many lines they are."""
+    """Returns the complete lines of a transcript without a valuation that has no total, and the number of these lines."""
     lines = transcript[:transcript.rfind("\n") + 1].splitlines(keepends=True)
-    # rows and totals belong to the line above that they follow
+    # rows and totals belong to the line before them
     heads = [place for place, line in enumerate(lines) if not line.startswith(("row,", "total,", "watcher,"))]
     last = lines[heads[-1]:] if heads else []
     if last and is_block([last[0].rstrip("\n").split(",")]) and not any(line.startswith("total,") for line in last):
@@ -153,14 +154,16 @@ def prefix_of(transcript: str) -> tuple[str, int]:
 
 
 def is_cut(transcript: str) -> bool:
-    """Whether the lines of the watchers, which stand at the end of each run that ended, aren't there."""
+    """Returns whether the transcript lacks the watchers' lines, with which every run that ended closes."""
     last = transcript.splitlines()[-2:]
     return not transcript.endswith("\n") or [line.split(",")[0] for line in last] != ["watcher", "watcher"]
 
 
 def check_cut(lines: list[Line], transcript: str, begun: Book, after: Journal, basis: Sequence[BasisRow]) -> str:
-    """Checks the prefix of a transcript that was cut, and that the journal holds what it says was accepted; states where it
-    was cut, and what of the run is known from the journal alone."""
+    """Checks the prefix of an interrupted transcript, and that the journal has what the prefix says was accepted.
+
+    Returns a sentence that says where the transcript ends and what of the run is known from the journal alone.
+    """
     front, count = prefix_of(transcript)
     run = Run(lines, begun, basis, {})
     for answer in answers_in(front)[0]:
@@ -174,7 +177,7 @@ def check_cut(lines: list[Line], transcript: str, begun: Book, after: Journal, b
 
 def check(script: bytes, transcript: str, before: bytes, after: bytes, basis: Sequence[BasisRow],
           known: Known | None = None) -> int:
-    """The same of the bytes of a script and of the journal before and after."""
+    """Does the same for the bytes of a script and of the journal before and after."""
     lines = read_script(script)
     if isinstance(lines, Fault):
         raise Wrong(f"the script is {lines.answer}")

@@ -1,4 +1,4 @@
-"""What may be wrong with a script's postings before they are sent, though each of them is a valid line."""
+"""Warns of what may be wrong with a script's postings before they are sent, although each of them is a valid line."""
 from __future__ import annotations
 
 import datetime
@@ -12,29 +12,30 @@ from life_tools.rules.remedies import remedy_of
 from life_tools.rules.policies import GRACE, Book, Policy, Refusal, anniversary, due_of, end_of
 from life_tools.scripts.lines import Line
 
-# a posting lies at most so far from what came before it, unless it is warned of
+# a posting whose day is farther from what came before it gets a warning
 FAR = datetime.timedelta(400)
 
 
 class Desk:
-    """The policies that a script names, as its rows meet them: what is accepted changes them."""
+    """The policies that a script names, in the state in which each row meets them; accepted rows change them."""
 
     def __init__(self, today: datetime.date) -> None:
         self.book, self.today = Book(), today
         self.positions: dict[Command, int] = {}
         self.days: dict[int, datetime.date] = {}
         self.reinstated: dict[int, datetime.date] = {}
-        # of each policy what was accepted, in order
+        # for each policy, its accepted commands in order
         self.taken: dict[int, list[Command]] = {}
 
     def read(self, data: bytes, upgrade: int, places: Iterable[int]) -> None:
-        """Takes the commands of these places of a file's records, which the program has judged, and the upgrade's position."""
+        """Takes the commands at these places of a file's records, which the program has judged, and the position of the
+        upgrade."""
         self.book.upgrade = upgrade
         for place in places:
             self.take(command_in(data[gate_of(place) + 1:gate_of(place + 1)]), place + 1)
 
     def warnings(self, line: Line, command: Command) -> list[str]:
-        """What may be wrong with the next posting of its lane."""
+        """Returns what may be wrong with the next posting of its lane."""
         policy = self.book.policies.get(command.number)
         found = [text for look in LOOKS for text in look(self, line, command, policy)]
         if command.day:
@@ -54,7 +55,7 @@ class Desk:
             self.reinstated[command.number] = command.on
 
     def advice(self, line: Line, refused: list[str]) -> list[str]:
-        """What to do about a line that was refused with these words; of a claim by what its policy's journal says, too."""
+        """Returns the advice on a line that was refused for this reason; for a claim it also considers its policy's postings."""
         command, what = line.command, remedy_of(line.kind, refused).what
         if command and command.kind == "claim" and (refused[0] == "beforelast" or refused == ["wrongstatus", "lapsed"]):
             what = standing(self.taken.get(command.number, []), command)
@@ -83,8 +84,11 @@ def is_near(desk: Desk, line: Line, command: Command, policy: Policy | None) -> 
 
 
 def came_before(command: Command, policy: Policy) -> tuple[datetime.date, str]:
-    """The day from which a posting's distance is counted. A policy that no premium is awaited of stays without a posting for
-    years, and then matures at its end; a claim on it may come on any day up to there."""
+    """Returns the day from which a posting's distance is measured, and what that day is.
+
+    A policy for which no premium is due any more has no postings for years, and then matures at its end; a claim on it may come
+    on any day before that.
+    """
     assert command.day
     end = end_of(policy)
     if command.kind == "mature" and policy.last < end:
@@ -122,7 +126,7 @@ def is_long_in_force(desk: Desk, line: Line, command: Command, policy: Policy | 
 
 
 def is_premium_owed(desk: Desk, line: Line, command: Command, policy: Policy | None) -> Iterator[str]:
-    """A death in the days of grace is insured, and the premium of these days is owed."""
+    """Reminds that a death within the days of grace is insured, but that the premium due is owed."""
     due = due_of(policy) if policy and command.kind == "claim" and policy.status == "inforce" else None
     if due and due <= command.on <= due + GRACE:
         assert policy
