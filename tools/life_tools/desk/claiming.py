@@ -1,11 +1,11 @@
-"""A file is claimed before it is read: it is renamed from the inbox into its entry's folder, and only that file is read.
+"""Claims files before they are read: a file is renamed from the inbox into its entry's folder, and only that file is read.
 
-Where the folder of the entry lies on another file system, the file is first renamed where it lies, to a hidden name that no
-other `day` takes; then it is copied, made safe, compared, and removed. `entry.json` names the file before it is renamed, so a
-claim that was interrupted is finished by the next `day`, or undone where the file still lies in the inbox.
+If the folder of the entry is on another file system, the file is first renamed in its own folder to a hidden name that no other
+`day` takes; then it is copied, made safe, compared, and removed. `entry.json` names the file before it is renamed. So the next
+`day` finishes a claim that was interrupted, or undoes it if the file is still in the inbox.
 
-A process that has the claimed file open may still write to it. The system reports such a process only of the caller's own
-files; so what is written later is noticed by the file's length, and becomes an entry of its own.
+A process that has the claimed file open may still write to it, and the system reports such a process only for the caller's own
+files. Therefore a later write is noticed by the file's length, and what was added becomes an entry of its own.
 """
 from __future__ import annotations
 
@@ -27,14 +27,14 @@ from life_tools.desk.entries import CLAIMING, DONE, ENTRY, HANDED_IN, LOG, OPEN,
 from life_tools.desk.records import Record, at_moment, now, shown, sync_file, sync_folder, write_safely
 from life_tools.scripts.lines import read_script, Fault
 
-# a file that was changed so lately may still be written
+# a file that was changed less than so many seconds ago may still be written
 YOUNG_SECONDS = 2
 AT_ONCE = 1 << 20
 BOOKS_OWN = ("journal.life", "checkpoint.life", "desk.toml")
 
 
 class Left(Exception):
-    """A file that is not claimed, or not read yet: where it lies, and why."""
+    """A file that is not claimed or not read yet; the text says why."""
 
 
 # --- who calls, and whose the file is ---
@@ -47,7 +47,7 @@ def user_name(uid: int) -> str:
 
 
 def login() -> str:
-    """The login of the session, and where there is none, as under cron, the user."""
+    """Returns the login of the session or, if there is none, as in a cron job, the name of the user."""
     try:
         return os.getlogin()
     except OSError:
@@ -75,8 +75,10 @@ def stays(why: str) -> Left:
 
 
 def is_being_written(path: str) -> bool:
-    """Whether a process has the file open for writing, as far as the system says: it gives a lease for reading only for a
-    file that none has so. Whoever asked is to ignore SIGIO."""
+    """Returns whether a process has the file open for writing, as far as the system reports it.
+
+    The system grants a lease for reading only if no process has the file open for writing. The caller must ignore SIGIO.
+    """
     handle = os.open(path, os.O_RDONLY | os.O_NOFOLLOW | os.O_NONBLOCK)
     try:
         fcntl.fcntl(handle, fcntl.F_SETLEASE, fcntl.F_RDLCK)
@@ -89,7 +91,7 @@ def is_being_written(path: str) -> bool:
 
 
 def demand_script(path: str, folder: str) -> None:
-    """Leaves what is no script: the book's own files, a basis, and all that is in `log/`."""
+    """Raises Left for what is not a script: the book's own files, a basis, and everything in `log/`."""
     real, book = os.path.realpath(path), os.path.realpath(folder)
     is_own = os.path.dirname(real) == book and os.path.basename(real) in BOOKS_OWN
     if is_own or os.path.commonpath([real, os.path.join(book, "log")]) == os.path.join(book, "log"):
@@ -101,7 +103,7 @@ def demand_script(path: str, folder: str) -> None:
 
 
 def demand_ready(path: str, folder: str) -> os.stat_result:
-    """The state of a file that may be claimed."""
+    """Returns the status of a file that may be claimed, and raises Left if it may not be."""
     try:
         found = os.lstat(path)
     except FileNotFoundError:
@@ -130,8 +132,10 @@ def new_record(path: str, found: os.stat_result) -> Record:
 
 
 def claimed(path: str, folder: str, log: Log) -> Entry:
-    """The entry of a file, which is no more in the inbox; `Left` where it stays there, or where its claim is to be finished by
-    the next run."""
+    """Claims a file and returns its entry; the file is then no longer in the inbox.
+
+    Raises Left if the file stays in the inbox, or if the next run has to finish its claim.
+    """
     try:
         found = demand_ready(path, folder)
         entry = Entry(log.new_folder(now()[:10], os.path.splitext(os.path.basename(path))[0]), new_record(path, found))
@@ -155,7 +159,10 @@ def hidden_path(entry: Entry) -> str:
 
 
 def has_file(entry: Entry) -> bool:
-    """Whether the file lies in the folder of its entry. A disk that can't say so is an error, and not a file that is gone."""
+    """Returns whether the file is in the folder of its entry.
+
+    If the disk cannot say so, that is an error and not a missing file.
+    """
     return HANDED_IN in os.listdir(entry.folder)
 
 
@@ -164,7 +171,7 @@ def is_moved(entry: Entry) -> bool:
 
 
 def undo(entry: Entry) -> None:
-    """Takes away an entry whose file was not moved; what holds a file is no empty folder, and stays."""
+    """Removes an entry whose file was not moved. A folder that holds any other file is not empty, and stays."""
     for name in os.listdir(entry.folder):
         if name == ENTRY or name.endswith(".part"):
             os.remove(entry.path(name))
@@ -173,7 +180,7 @@ def undo(entry: Entry) -> None:
 
 
 def take(entry: Entry) -> None:
-    """Renames the file into the folder of the entry, or copies it there from another file system; and opens the entry."""
+    """Renames the file into the folder of the entry, or copies it there from another file system; then opens the entry."""
     source, to = entry.record["file"]["path"], entry.path(HANDED_IN)
     try:
         os.rename(source, to)
@@ -181,7 +188,7 @@ def take(entry: Entry) -> None:
     except OSError as error:
         if error.errno != errno.EXDEV:
             raise
-        # noted first: where the disk of the inbox is away, the next run knows that the file lies there
+        # noted first: if the inbox's disk is gone, the next run knows that the file is there
         entry.record["file"]["hidden"] = hidden_path(entry)
         entry.save()
         os.rename(source, hidden_path(entry))
@@ -192,13 +199,14 @@ def take(entry: Entry) -> None:
 
 
 def note_file(entry: Entry, path: str) -> None:
-    """Whose the claimed file is, and when it was modified: another one may have taken its name until it was claimed."""
+    """Notes the owner and the time of the claimed file again, because another file may have taken its name before it was
+    claimed."""
     found = os.lstat(path)
     entry.record["file"].update(owner=user_name(found.st_uid), modified=at_moment(found.st_mtime))
 
 
 def move_from_hidden(entry: Entry) -> None:
-    """Copies the file under its hidden name, makes the copy safe, compares both, and removes the hidden one."""
+    """Copies the file under its hidden name, makes the copy safe, compares the two, and removes the hidden file."""
     source = hidden_path(entry)
     note_file(entry, source)
     copy_safely(source, entry)
@@ -206,7 +214,7 @@ def move_from_hidden(entry: Entry) -> None:
 
 
 def copy_safely(source: str, entry: Entry) -> None:
-    """The entry's file becomes a copy, which is there whole or not at all, also after a power cut."""
+    """Makes the entry's file a copy that is complete or not there at all, even after a power failure."""
     part = entry.path(f".{HANDED_IN}.part")
     shutil.copyfile(source, part)
     sync_file(part)
@@ -225,15 +233,17 @@ def sum_of(path: str) -> str:
 
 
 def open_entry(entry: Entry) -> None:
-    """Reads the claimed file for the first time: its checksum, and its rows, or the fault for which it is refused whole.
-    A file that a process still writes stays unread until the next run."""
+    """Reads the claimed file for the first time: its checksum, and its rows or the fault for which the whole file is refused.
+
+    If a process still writes the file, it stays unread until the next run.
+    """
     path = entry.path(HANDED_IN)
     if is_being_written(path):
         raise Left(f"lies in {entry.shown}, where a process still writes it: the next run reads it")
     if os.stat(path).st_nlink > 1:
-        # whoever writes to it under another name doesn't change what was posted
+        # the file has another name as well; a write through that name must not change what was posted
         copy_safely(path, entry)
-    # what is posted can be shown after a power cut, too
+    # so that what was posted can be shown even after a power failure
     sync_file(path)
     data = b"" if os.path.getsize(path) > MOST_SCRIPT_BYTES else bytes_of(path)
     record = entry.record
@@ -251,7 +261,7 @@ def open_entry(entry: Entry) -> None:
 # --- claims that were interrupted ---
 
 def clear_unbegun(log: Log) -> Iterator[str]:
-    """Takes away folders without an `entry.json`, for which nothing was claimed yet; yields those that have a file."""
+    """Removes folders without an `entry.json`, for which nothing was claimed yet; yields those that hold a file."""
     for name in log.names():
         folder = os.path.join(log.path, name)
         if os.path.lexists(os.path.join(folder, ENTRY)):
@@ -264,8 +274,10 @@ def clear_unbegun(log: Log) -> Iterator[str]:
 
 
 def finish_claim(entry: Entry) -> bool:
-    """Finishes a claim that was interrupted. Where the file still lies in the inbox, or was taken away from there by somebody
-    else, the entry goes away again, and False is returned."""
+    """Finishes an interrupted claim and returns True.
+
+    If the file is still in the inbox, or somebody else has taken it from there, the entry is removed and False is returned.
+    """
     if entry.record["state"] != CLAIMING:
         return True
     if not has_file(entry):
@@ -285,7 +297,7 @@ def finish_claim(entry: Entry) -> bool:
 # --- what is written to a file after it was claimed and read ---
 
 def written_later(log: Log) -> Iterator[str]:
-    """The names of entries whose file has a later time than their record."""
+    """Yields the names of entries whose file is newer than their record."""
     for name in log.names():
         try:
             times = [os.stat(os.path.join(log.path, name, each)).st_mtime_ns for each in (HANDED_IN, ENTRY)]
@@ -296,7 +308,10 @@ def written_later(log: Log) -> Iterator[str]:
 
 
 def requeued(entry: Entry, log: Log, others: Iterable[Entry]) -> Entry:
-    """A new entry of what was added to a claimed file after it was read; or the one that was made when this was interrupted."""
+    """Returns a new entry for what was added to a claimed file after it was read.
+
+    If an earlier call was interrupted after it had made that entry, the same entry is returned.
+    """
     path, size = entry.path(HANDED_IN), entry.seen_bytes
     if os.path.getsize(path) < size:
         raise Wrong(f"{entry.shown}/{HANDED_IN} was changed after it was claimed and read: compare it with the SHA-256 in "

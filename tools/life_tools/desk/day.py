@@ -1,5 +1,7 @@
-"""The work of a `day`: what was interrupted is finished, files are claimed, looked over and posted, and what came of each of
-their rows is kept and reported."""
+"""Does the work of a `day`.
+
+It finishes what was interrupted; claims, checks and posts files; and records and reports the result of each row.
+"""
 from __future__ import annotations
 
 import datetime
@@ -25,14 +27,14 @@ from life_tools.journal.copied_folder import JOURNAL
 from life_tools.journal.medium import made_safe
 from life_tools.journal.wholeness import DAMAGED, beside, log_count, shape_with
 
-# so many rows of a file are shown; the others stand in its folder
+# at most so many rows of a file are shown; all of them are in its folder
 MOST_SHOWN = 20
 YEAR = 365
 
 
 @dataclass(frozen=True)
 class Asked:
-    """What `day` was asked for."""
+    """What `day` was asked to do."""
 
     folder: str
     files: Sequence[str]
@@ -50,22 +52,22 @@ class Day:
         self.log = Log(asked.folder)
         self.nets = NetPremiums(asked.folder, program.basis)
         self.entries: dict[str, Entry] = {}
-        # what was held before, and what this `day` worked on, by the entries' names
+        # the names of the entries that this `day` worked on
         self.worked: set[str] = set()
-        # entries of which a fault was reported
+        # the names of entries whose fault was reported
         self.faulty: set[str] = set()
         self.is_explained = False
         self.status = 0
 
     def say(self, text: str) -> None:
-        """A line on standard error about something that a person has to know."""
+        """Prints a line on standard error about something that a person has to know; the status becomes 1."""
         remark(f"day: {text}")
         self.status = 1
 
     # --- the whole ---
 
     def work(self, judge: Callable[[Day], None]) -> int:
-        """Finishes what was interrupted, lets a person's judgement of held rows take effect, and posts."""
+        """Finishes what was interrupted, applies a person's judgement of held rows, and posts. Returns the status."""
         self.demand_book()
         if not self.is_whole():
             return 1
@@ -88,7 +90,8 @@ class Day:
         remark(f"day: {len(rows)} rows of entry {words} are put away, and are never posted")
 
     def demand_book(self) -> None:
-        """A journal is begun only where that was asked for, and never in the place of one that was there."""
+        """Raises Wrong if the journal may not be used or begun: one is begun only if that was asked for, never in place of
+        another."""
         noted, folder = log_count(self.log.path) or 0, os.path.abspath(self.asked.folder)
         if os.path.lexists(self.journal):
             demand(os.path.isfile(self.journal), f"{self.journal} is not a file: nothing was done")
@@ -102,12 +105,12 @@ class Day:
                "begins a book")
 
     def is_whole(self) -> bool:
-        """Whether the book may be written to: nothing of it shows to be gone."""
+        """Returns whether the book may be written to, which it may not if commands are known to be gone."""
         if not os.path.exists(self.journal):
             return True
         wait_for_journal(self.journal, self.patience)
         shape = shape_with(self.journal, *beside(self.journal))
-        # what a run that was interrupted left behind the end is no news, nor what was said already
+        # bytes that an interrupted run left after the end are expected, and what was reported before is not repeated
         self.is_explained = self.is_explained or self.open_run() is not None
         for reason in shape.reasons() if shape.verdict == DAMAGED or not self.is_explained else ():
             self.say(reason)
@@ -128,8 +131,11 @@ class Day:
             self.finish_run(run)
 
     def unnoted_runs(self) -> list[Run]:
-        """The run that was interrupted, and each one that an entry with rows left doesn't know of, as in a backup that was made
-        while they were noted; the oldest first."""
+        """Returns the interrupted run, if there is one, and each run that an entry with rows left does not know; the oldest is
+        first.
+
+        Entries may not know a run if they come from a backup that was made while the run was being noted.
+        """
         undone = [entry for entry in self.log.undone() if entry.record["state"] == OPEN and not entry.fault]
         left = {entry.name: {*(run["run"] for run in entry.record["runs"]), *entry.record.get("void", [])}
                 for entry in undone if entry.left}
@@ -147,7 +153,7 @@ class Day:
         self.say(f"the other {len(found.left)} rows are posted now" if found.left else "nothing of it is left to post")
 
     def finish_entries(self) -> None:
-        """Takes up the entries that are not done: claims, releases and rows that were interrupted."""
+        """Continues the entries that are not done: interrupted claims, releases and rows."""
         for folder in clear_unbegun(self.log):
             self.say(f"{folder} has a file and no entry.json, so nothing of it is posted: put its entry.json back from a copy; "
                      "or hand in a copy of its file, of which rows that were posted are held, and remove the folder")
@@ -186,8 +192,10 @@ class Day:
         return sorted(self.entries.values(), key=lambda entry: entry.number)
 
     def pending(self) -> list[Entry]:
-        """The entries that have rows to be posted. An entry of which nothing is left is closed; what was written to a file after
-        it was read is an entry of its own."""
+        """Returns the entries that have rows to post.
+
+        An entry with nothing left is closed. What was added to a file after it was read becomes an entry of its own.
+        """
         for entry in self.in_order():
             if entry.is_added_to:
                 self.take_added(entry)
@@ -218,7 +226,7 @@ class Day:
             self.say(fault)
 
     def post(self) -> None:
-        """Posts what is to be posted, run after run, until nothing is left or a run ends badly."""
+        """Posts what there is to post, run after run, until nothing is left or a run ends badly."""
         while pending := self.pending():
             batch = chosen(pending)
             self.worked.update(entry.name for entry in batch)
@@ -231,7 +239,7 @@ class Day:
                 return
 
     def hold(self, batch: Iterable[Entry]) -> None:
-        """Holds rows for a person, and closes the entries of which nothing is left to post."""
+        """Holds rows for a person, and closes the entries that have nothing left to post."""
         waiting = waiting_in(self.in_order())
         holder = Holder(self.asked.today, self.asked.settings, self.nets, waiting)
         holder.read(self.journal, count_of(self.journal), batch)
@@ -243,7 +251,7 @@ class Day:
             self.say(f"premiums of issues are not compared with net premiums: {self.nets.missing}")
 
     def run(self, batch: list[Entry]) -> bool:
-        """Posts the rows of up to eight entries; whether all of them were answered."""
+        """Posts the rows of up to eight entries and returns whether all of them were answered."""
         if not self.is_whole():
             return False
         with self.stop.posting():
@@ -263,8 +271,8 @@ class Day:
             remark(f"day: run {run.number}: {'; '.join(lanes)}: the lane field of each row is rewritten so")
 
     def refuse(self, run: Run) -> bool:
-        """Notes the rows for which the program refused the whole script, where it names such; the others are posted by the
-        next run."""
+        """Notes the rows for which the program refused the whole script, if its answer names any; the next run posts the
+        others."""
         rows, answer = rows_of(run), run.transcript().strip()
         refused = refused_rows(script_of(run), answer)
         for row in refused:
@@ -275,8 +283,11 @@ class Day:
         return bool(refused)
 
     def settle(self, run: Run, status: int | None) -> Reckoned:
-        """Finds out what became of each row of a run, and notes it in its entries; what is noted already stays. The last posting
-        of a run that was killed may not be on the disk yet, and one whose sync failed may show in memory alone."""
+        """Finds out what became of each row of a run and notes it in the entries; what is already noted does not change.
+
+        The journal is synced first: the last posting of a killed run may not be on the disk yet, and a posting whose sync failed
+        may exist only in memory.
+        """
         if os.path.exists(self.journal):
             made_safe(self.journal)
         is_open = run.record["state"] == BEGUN
@@ -299,7 +310,7 @@ class Day:
         return found
 
     def note(self, entry: Entry, lane: int, run: Run, found: Reckoned, rows: dict[int, int], end: Record) -> None:
-        """Notes in an entry what became of its rows, in one write."""
+        """Notes in an entry what became of its rows, in a single write."""
         record = entry.record
         for row, own in rows.items():
             if row in found.accepted:
@@ -360,7 +371,7 @@ class Day:
             self.say(f"look at the held rows; `life-tools day --release {entry.number}` posts them, --discard puts them away")
 
     def tell_room(self) -> None:
-        """How many commands are left, where the book may be full within a year."""
+        """Prints how many commands are left if the book may be full within a year."""
         count = count_of(self.journal)
         if (MOST_COMMANDS - count) > 4 * count:
             return
@@ -379,7 +390,7 @@ class Day:
 
 
 def lane_text(transcript: str, lane: int) -> str:
-    """The lines of a transcript that answer one lane, with the rows of its valuations."""
+    """Returns the lines of a transcript that answer one lane, including the rows of its valuations."""
     found, is_mine = [], False
     for line in transcript.splitlines():
         if not line.startswith(("row,", "total,")):

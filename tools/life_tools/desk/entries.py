@@ -30,7 +30,7 @@ HANDED_IN, ENTRY, RUN = "handed-in.csv", "entry.json", "run.json"
 HELD_ROWS, FULL_ROWS, TRANSCRIPT, SCRIPT, REMARKS, DONE = "held.csv", "full.csv", "transcript", "script", "remarks", "done"
 NAMED = re.compile("([0-9]{6,})-.*")
 NUMBERED = re.compile("[0-9]{6,}")
-# what a row that is held may be
+# the states of a row that was held
 HELD, RELEASED, DISCARDED = "held", "released", "discarded"
 CLAIMING, OPEN, CLOSED = "claiming", "open", "done"
 BEGUN, ENDED = "begun", "ended"
@@ -54,12 +54,12 @@ class Entry:
 
     @property
     def shown(self) -> str:
-        """How a message names it."""
+        """Returns the name of the entry in messages."""
         return os.path.join(LOG, self.name)
 
     @property
     def file(self) -> str:
-        """The name of the file that was handed in, as it is shown: on one line, with control bytes escaped."""
+        """Returns the name of the file that was handed in, as messages show it: on one line, with control bytes escaped."""
         return shown(self.record["file"]["name"])
 
     def path(self, name: str) -> str:
@@ -70,13 +70,13 @@ class Entry:
 
     @property
     def lines(self) -> list[Line]:
-        """The rows of the file as it was read when it was claimed; none of one that was refused whole."""
+        """Returns the rows of the file as it was when it was claimed; a file that was refused whole has none."""
         if self._lines is None:
             self._lines = [] if self.record["refused_whole"] else lines_in(self.handed_in(), self.file)
         return self._lines
 
     def handed_in(self) -> bytes:
-        """The bytes that were read when the file was claimed."""
+        """Returns the bytes that were read when the file was claimed, and raises Wrong if they were changed since."""
         file = self.record["file"]
         data = bytes_of(self.path(HANDED_IN))[:file["bytes"]]
         if hashlib.sha256(data).hexdigest() != file["sha256"]:
@@ -85,7 +85,7 @@ class Entry:
 
     @property
     def fault(self) -> str | None:
-        """Why its rows can't be read, where that is so."""
+        """Returns why its rows cannot be read, or None if they can."""
         try:
             _ = self.lines
         except Wrong as wrong:
@@ -94,24 +94,24 @@ class Entry:
 
     @property
     def seen_bytes(self) -> int:
-        """How many bytes of the claimed file were taken up, here or in other entries."""
+        """Returns how many bytes of the claimed file have been taken into this or other entries."""
         file = self.record["file"]
         return int(file.get("taken_up", file["bytes"]))
 
     @property
     def is_added_to(self) -> bool:
-        """Whether the claimed file has another length than it had when it was read."""
+        """Returns whether the claimed file's length differs from what has been taken into entries."""
         path = self.path(HANDED_IN)
         return self.record["state"] != CLAIMING and os.path.exists(path) and os.path.getsize(path) != self.seen_bytes
 
     @property
     def held(self) -> list[Record]:
-        """The rows that wait for a person."""
+        """Returns the rows that wait for a person."""
         return [each for each in self.record["held"] if each["state"] == HELD]
 
     @property
     def left(self) -> list[Line]:
-        """The rows that are still to be posted."""
+        """Returns the rows that are still to be posted."""
         record = self.record
         settled = {row for name in ("accepted", "refused", "answered") for row, *_ in record[name]}
         settled.update(each["row"] for each in record["held"])
@@ -122,7 +122,7 @@ class Entry:
         return self.record.get("from") is not None
 
     def close(self, at: str) -> None:
-        """Writes what is to be seen of it, and the mark `done` where nothing is left to do."""
+        """Writes the record and the files that follow from it; the entry is marked `done` if nothing is left to do."""
         is_done = not self.left and not self.is_added_to and self.record["state"] == OPEN
         if is_done:
             self.record["state"] = CLOSED
@@ -131,14 +131,15 @@ class Entry:
         self.write_marks()
 
     def write_marks(self) -> None:
-        """The files that follow from `entry.json`: the rows that are held, and the mark `done`. What is right stays."""
+        """Writes the files that follow from `entry.json`, the held rows and the mark `done`; files that are right are not
+        touched."""
         rows = "".join(f"{each['text']}\n" for each in self.held).encode("utf-8", "surrogateescape")
         put(self.path(HELD_ROWS), rows or None)
         put(self.path(DONE), b"" if self.record["state"] == CLOSED and not rows else None)
 
 
 def put(path: str, data: bytes | None) -> None:
-    """A file of these bytes, or no file; one that is so already isn't touched."""
+    """Makes the file have these bytes, or removes it if `data` is None; a file that is already right is not touched."""
     if data is None and os.path.exists(path):
         os.remove(path)
         sync_folder(os.path.dirname(path))
@@ -164,7 +165,7 @@ class Run:
         write_record(self.path(RUN), self.record)
 
     def transcript(self) -> str:
-        """What the program printed, as far as it came; nothing where it printed nothing yet."""
+        """Returns what the program has printed so far, or "" if it printed nothing yet."""
         path = self.path(TRANSCRIPT)
         return bytes_of(path).decode("ascii", "replace") if os.path.exists(path) else ""
 
@@ -179,7 +180,7 @@ class Log:
     # --- entries ---
 
     def names(self) -> list[str]:
-        """The entries' folders, in the order in which they were claimed."""
+        """Returns the names of the entries' folders, in the order in which they were claimed."""
         if not os.path.isdir(self.path):
             return []
         with os.scandir(self.path) as found:
@@ -191,19 +192,19 @@ class Log:
         return Entry(folder, read_record(os.path.join(folder, ENTRY)))
 
     def recorded(self) -> list[str]:
-        """The names of the entries that have a record."""
+        """Returns the names of the entries that have a record."""
         return [name for name in self.names() if os.path.exists(os.path.join(self.path, name, ENTRY))]
 
     def entries(self) -> Iterator[Entry]:
-        """All entries, with those that were refused or are done."""
+        """Yields all entries, including those that were refused or are done."""
         return map(self.entry, self.recorded())
 
     def undone(self) -> list[Entry]:
-        """The entries of which something is left to do, by a person or by the next run."""
+        """Returns the entries that still need work, by a person or by the next run."""
         return [self.entry(name) for name in self.recorded() if not os.path.exists(os.path.join(self.path, name, DONE))]
 
     def named(self, words: str) -> Entry:
-        """The entry that a person names: by its folder's name or path, or by its number."""
+        """Returns the entry that a person names by its folder's name or path, or by its number."""
         wanted = os.path.basename(words.rstrip("/"))
         for name in self.names():
             if name == wanted or (wanted.isdecimal() and wanted.isascii() and int(name.partition("-")[0]) == int(wanted)):
@@ -211,7 +212,7 @@ class Log:
         raise Wrong(f"there is no entry {words} in {self.path}: `life-tools day --status` lists those that wait")
 
     def new_folder(self, day: str, stem: str) -> str:
-        """A new folder for an entry, which is made safe."""
+        """Makes a new folder for an entry, and makes it safe."""
         names = self.names()
         number = int(names[-1].partition("-")[0]) + 1 if names else 1
         shown = re.sub("[^A-Za-z0-9._-]+", "_", stem)[:40]

@@ -1,12 +1,12 @@
-"""Which rows of an entry are held for a person, by the book that they meet.
+"""Decides which rows of an entry are held for a person, given the book that they meet.
 
-A posting is recognised by what it says: line ends, a byte order mark and quotes make no difference. Held is
+Two postings are equal if they say the same: line ends, a byte order mark and quotes make no difference. A row is held
 
-- a row that equals a posting of the journal or a row above it, with the position or the line; a premium that equals one is
-  left to the rules, which refuse it until the next is due;
-- an issue that is not plausible, and one whose number is in use;
-- a row of a day that hasn't come, or far from what came before it;
-- and each later row of a number of which a row is held.
+- if it equals a posting of the journal (named by its position) or a row above it (named by its line), unless it is a premium:
+  the rules refuse an equal premium until the next one is due;
+- if it is an issue that is not plausible, or whose number is in use;
+- if its day is in the future, or far from what came before it;
+- if an earlier row of its policy is held.
 
 Valuations and trims are never held.
 """
@@ -27,35 +27,38 @@ from life_tools.scripts.lines import Line
 from life_tools.scripts.warnings import FAR, Desk, came_before
 
 
-# where a row stands: the number of its entry, and its own there
+# the number of a row's entry, and the row's number in it
 Place = tuple[int, int]
 
 
 class Holder:
-    """Looks at entries in the order in which they are posted."""
+    """Checks entries in the order in which they are posted."""
 
     def __init__(self, today: datetime.date, settings: Settings, nets: NetPremiums,
                  waiting: dict[int, tuple[Place, str]]) -> None:
         self.settings, self.nets = settings, nets
         self.desk = Desk(today)
-        # of each policy of which a row is held, the first such row, and the name of its entry
+        # for each policy that has a held row: the place of the first such row, and the name of its entry
         self.waiting = waiting
-        # the rows above, which have no position yet
+        # the rows above, which have no position yet; each with a text that says where it stands
         self.above: dict[Command, str] = {}
 
     def read(self, journal: str, count: int, entries: Iterable[Entry]) -> None:
-        """Takes what the policies of these entries have in the journal."""
+        """Takes the commands that the journal has for the policies of these entries."""
         numbers = {line.command.number for entry in entries for line in entry.left if line.command}
         if not count or not numbers or not os.path.exists(journal):
             return
-        # numpy takes a tenth of a second, which a desk without a book spares
+        # importing numpy takes a tenth of a second, which a desk without a book saves
         from life_tools.journal.records import places_in, upgrade_in
 
         data = prefix_at(journal, count)
         self.desk.read(data, upgrade_in(data, count), places_in(data, count, numbers).tolist())
 
     def hold(self, entry: Entry) -> list[Record]:
-        """Holds rows of an entry that are still to be posted; says which. What a person released is not looked at again."""
+        """Holds those rows of an entry, still to be posted, that a person has to check; returns them.
+
+        Released rows are not held again.
+        """
         found = []
         for line in entry.left:
             command = line.command
@@ -72,7 +75,7 @@ class Holder:
         return found
 
     def why(self, command: Command, place: Place) -> Why | None:
-        """Why a row is held, if it is; a row before the first held one of its policy is not held with that."""
+        """Returns why a row is held, or None. A row before the first held row of its policy is not held because of that row."""
         if command.kind == "upgrade":
             return None
         first = self.waiting.get(command.number)
@@ -105,7 +108,7 @@ class Holder:
         return None
 
     def pass_on(self, command: Command, where: str) -> None:
-        """Keeps a row that is posted, and the policy as the rules leave it."""
+        """Keeps a row that is to be posted, and the policy as the rules leave it."""
         self.above.setdefault(command, where)
         if command.kind == "upgrade":
             self.desk.book.upgrade = self.desk.book.upgrade or 1
@@ -119,7 +122,7 @@ def held_row(line: Line, command: Command, why: Why) -> Record:
 
 
 def waiting_in(entries: Iterable[Entry]) -> dict[int, tuple[Place, str]]:
-    """Of each policy of which a row is held, the first such row, and the name of its entry."""
+    """Returns, for each policy that has a held row, the place of the first such row and the name of its entry."""
     waiting: dict[int, tuple[Place, str]] = {}
     for entry in entries:
         for each in entry.held:

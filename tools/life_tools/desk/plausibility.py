@@ -1,4 +1,7 @@
-"""Whether an issue is plausible: what it binds the office to can't be taken back, so a person looks at a doubtful one first."""
+"""Decides whether an issue is plausible.
+
+An issue binds the office and cannot be undone, so a person checks a doubtful one first.
+"""
 from __future__ import annotations
 
 import datetime
@@ -12,18 +15,18 @@ from life_tools.rules.commands import Command
 from life_tools.rules.policies import issued
 from life_tools.tables.basis import BasisRow, read_basis
 
-# why a row is held: the reason as `desk.toml` names it, and a sentence
+# why a row is held: the reason by its name in `desk.toml`, and a sentence
 Why = tuple[str, str]
 
 
 class NetPremiums:
-    """The net level premiums of a basis, each worked out once: the benefits' value divided by the annuity's."""
+    """The net level premiums of a basis, each computed once: the value of the benefits divided by that of the annuity."""
 
     def __init__(self, folder: str, name: str) -> None:
         self.name = name
         self.known: dict[tuple[datetime.date, int, int, int, bool], Fraction] = {}
         self.rows: list[BasisRow] = []
-        # why no premium is compared, where none is
+        # why premiums are not compared, or None if they are
         self.missing: str | None = None
         if not os.path.exists(os.path.join(folder, name)):
             self.missing = f"there is no {name}"
@@ -34,7 +37,7 @@ class NetPremiums:
             self.missing = str(wrong)
 
     def of(self, command: Command) -> Fraction | str:
-        """The exact net premium of an issue in cents, or the word why the basis has none."""
+        """Returns the exact net premium of an issue in cents, or the word that says why the basis has none."""
         terms = terms_of(issued(command), self.rows)
         if isinstance(terms, str):
             return terms
@@ -50,7 +53,7 @@ class NetPremiums:
 
 
 def decimal(number: Fraction) -> str:
-    """A setting as it is written: it has few digits."""
+    """Returns a setting as it is written in `desk.toml`; it has few digits."""
     return f"{float(number):g}"
 
 
@@ -79,19 +82,22 @@ def doubtful_premium(command: Command, nets: NetPremiums, settings: Settings) ->
 
 
 def doubtful_issue(command: Command, today: datetime.date, nets: NetPremiums, settings: Settings) -> Why | None:
-    """Why a person has to look at an issue, if one has."""
+    """Returns why a person has to check an issue, or None if nobody has to."""
     return doubtful_day(command, today, settings) or doubtful_premium(command, nets, settings)
 
 
 class Doubts:
-    """What is doubtful of issues by a folder's basis and its `desk.toml`."""
+    """Finds what is doubtful about issues, by a folder's basis and its `desk.toml`."""
 
     def __init__(self, today: datetime.date, folder: str, basis: str) -> None:
         self.today, self.settings = today, settings_of(folder)
         self.nets = NetPremiums(folder, basis)
 
     def of(self, command: Command) -> list[str]:
-        """What is doubtful of an issue; that its day hasn't come is said of each kind of row elsewhere."""
+        """Returns what is doubtful about an issue.
+
+        That its day is in the future is reported elsewhere, for every kind of row.
+        """
         if command.kind != "issue":
             return []
         day = doubtful_day(command, self.today, self.settings) if command.on <= self.today else None

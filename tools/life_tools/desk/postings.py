@@ -1,4 +1,4 @@
-"""Who posted what, when, from which file, and who released it: the accepted rows of all entries, beside the journal."""
+"""Lists who posted what, when and from which file, and who released it: the accepted rows of all entries, next to the journal."""
 from __future__ import annotations
 
 import os
@@ -19,7 +19,7 @@ HEAD = ["position", "kind", "policy", "day", "file", "line", "owner", "posted_by
 
 @dataclass(frozen=True)
 class Posting:
-    """An accepted row: its position, its entry, its line there, and the run that posted it."""
+    """An accepted row: its position, its entry, its line in that entry, and the run that posted it."""
 
     position: int
     entry: Entry
@@ -32,7 +32,7 @@ class Posting:
 
     @property
     def line_handed_in(self) -> int:
-        """The line of the file that was handed in; a released row stands elsewhere in its own entry."""
+        """Returns the line in the file that was handed in; a released row has another line in its own entry."""
         origin = self.entry.record["from"]
         return int(origin["lines"][self.line.row.number - 1]) if origin else self.line.row.line
 
@@ -54,7 +54,7 @@ class Posting:
 
 @dataclass(frozen=True)
 class Wanted:
-    """Which postings are asked for; None where it doesn't matter."""
+    """Which postings are asked for; None means any."""
 
     position: int | None = None
     policy: int | None = None
@@ -62,7 +62,7 @@ class Wanted:
     day: str | None = None
 
     def may_have(self, entry: Entry) -> bool:
-        """Whether an entry may have such a posting, by its runs."""
+        """Returns whether an entry may have such a posting, judging by its runs."""
         runs = entry.record["runs"]
         if self.position is not None and not any(run["before"] < self.position <= run["after"] for run in runs):
             return False
@@ -75,7 +75,7 @@ class Wanted:
 
 
 def postings_of(entry: Entry) -> Iterator[Posting]:
-    """The accepted rows of an entry, each with its run."""
+    """Yields the accepted rows of an entry, each with its run."""
     lines = {line.row.number: line for line in entry.lines} if entry.record["accepted"] else {}
     for row, position in entry.record["accepted"]:
         run = next(each for each in entry.record["runs"] if each["before"] < position <= each["after"])
@@ -83,8 +83,10 @@ def postings_of(entry: Entry) -> Iterator[Posting]:
 
 
 def found_in(log: Log, wanted: Wanted, faults: list[str] | None = None) -> list[Posting]:
-    """The postings that are asked for, in the order of their positions. An entry that can't be read is an error, or where
-    faults are collected one of these."""
+    """Returns the wanted postings in the order of their positions.
+
+    If an entry cannot be read, Wrong is raised, or its message is added to `faults` if that is a list.
+    """
     found: list[Posting] = []
     for name in log.recorded():
         try:
@@ -104,7 +106,7 @@ def said(posting: Posting) -> str:
 
 
 def differences(journal: str, count: int, postings: Iterable[Posting]) -> Iterator[str]:
-    """What the journal has otherwise than the log says."""
+    """Yields what differs between the journal and these postings of the log."""
     data = prefix_at(journal, count)
     for posting in postings:
         place = posting.position - 1
@@ -115,7 +117,7 @@ def differences(journal: str, count: int, postings: Iterable[Posting]) -> Iterat
 
 
 def positions_wanted(journal: str, count: int, wanted: Wanted) -> Iterator[int]:
-    """The positions of the journal that the log should name: of the position or policy that is asked for, or all of them."""
+    """Yields the positions that the log should name: those of the wanted position or policy, or all of the journal."""
     if wanted.by is not None or wanted.day is not None or not os.path.exists(journal):
         return
     if wanted.position is not None:

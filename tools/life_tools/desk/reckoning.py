@@ -1,9 +1,9 @@
-"""What became of each row of a run, however it ended: by what it printed, and by the journal behind the count before it.
+"""Finds out what became of each row of a run, however it ended, from its output and from the records that the journal gained.
 
-What was printed stands at the beginning of the transcript, which may be cut anywhere or be missing. Each row that the journal
-has beyond that belongs to the first row of some lane that says so and was not answered yet. The rows of the lane before it
-were answered, and not accepted; their answers were not printed. A record that is none of the run's was posted by another
-run, and is counted.
+The transcript may be cut anywhere or be missing; what is printed answers the first rows of each lane. Each further record of the
+journal is assigned to the nearest unanswered row of some lane that equals it. The rows of the lane before that row were answered
+and not accepted, although their answers were not printed. A record that equals no row of the run was posted by another run, and
+is only counted.
 """
 from __future__ import annotations
 
@@ -21,15 +21,18 @@ UNPOSTED = ("fault", "nomemory")
 
 
 class NotOfTheRun(Wrong):
-    """The journal doesn't hold what the run printed as accepted."""
+    """The journal does not have what the run printed as accepted."""
 
     status = 1
 
 
 @dataclass
 class Reckoned:
-    """Of the rows of a script, by their numbers: the position of each accepted one; the words of each refused one; what was
-    answered to valuations and trims; the rows left; and how many records are of no row."""
+    """The results for the rows of a script, by their numbers.
+
+    `accepted` has positions, `refused` the reasons, `answered` the answers to valuations and trims, `left` the rows without an
+    answer; `foreign` is the number of records that belong to no row.
+    """
 
     accepted: dict[int, int] = field(default_factory=dict)
     refused: dict[int, str] = field(default_factory=dict)
@@ -39,7 +42,7 @@ class Reckoned:
 
 
 def commands_between(journal: str, first: int, last: int) -> dict[int, Command]:
-    """The commands of a journal behind a position, up to another, by their positions."""
+    """Returns the commands of a journal after position `first` up to `last`, by their positions."""
     if last <= first or not os.path.exists(journal):
         return {}
     with open(journal, "rb") as file:
@@ -50,15 +53,15 @@ def commands_between(journal: str, first: int, last: int) -> dict[int, Command]:
 
 
 class Reckoning:
-    """Follows the printed answers, then deals the other records out."""
+    """Follows the printed answers, and then assigns the other records to rows."""
 
     def __init__(self, lines: list[Line], records: dict[int, Command]) -> None:
         self.lanes, self.records = lanes_of(lines), records
         self.at = dict.fromkeys(self.lanes, 0)
         self.found = Reckoned()
-        # where a command stands among the rows that have no printed answer
+        # for each command, the lanes and places of the rows that equal it and have no printed answer
         self.places: dict[Command, list[tuple[int, int]]] = {}
-        # the rows that met a fault or found no memory: one of them may be in the journal all the same
+        # the rows that met a fault or ran out of memory; one of them may be in the journal all the same
         self.unposted: list[Line] = []
 
     def follow(self, head: list[str]) -> None:
@@ -94,7 +97,7 @@ class Reckoning:
         self.found.accepted[line.row.number] = position
 
     def deal(self, first: int) -> None:
-        """Deals the records behind a position out."""
+        """Assigns the records after a position to rows."""
         for lane, lines in self.lanes.items():
             for place in range(self.at[lane], len(lines)):
                 command = lines[place].command
@@ -120,7 +123,7 @@ class Reckoning:
         return True
 
     def pass_over(self, lane: int, place: int) -> None:
-        """The rows of a lane before one that was accepted were answered."""
+        """Notes that the rows of a lane before an accepted one were answered."""
         for line in self.lanes[lane][self.at[lane]:place]:
             which = self.found.refused if line.command else self.found.answered
             which[line.row.number] = NOT_PRINTED
@@ -134,9 +137,12 @@ class Reckoning:
 
 
 def reckoned(lines: list[Line], transcript: str, records: dict[int, Command], before: int) -> Reckoned:
-    """What became of each row of a script that was run on a journal of so many commands before; `records` are those behind."""
+    """Returns what became of each row of a script.
+
+    The journal had `before` commands when the run began, and `records` are the commands after them.
+    """
     reckoning = Reckoning(lines, records)
-    # a run that began nothing prints one line of words alone, such as `diskfault`
+    # a run that began nothing prints a single line without numbers, such as `diskfault`
     for answer in whole_answers(transcript) if transcript[:1].isdigit() else ():
         reckoning.follow(answer[0])
     reckoning.deal(max(reckoning.found.accepted.values(), default=before))

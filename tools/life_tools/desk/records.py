@@ -1,4 +1,5 @@
-"""Records of the desk on the disk: JSON files and folders that are there whole or not at all, also after a power cut."""
+"""Writes and reads the desk's records: JSON files and folders that are complete or not there at all, even after a power
+failure."""
 from __future__ import annotations
 
 import datetime
@@ -14,7 +15,7 @@ FORMAT = 1
 
 
 def sync_folder(path: str) -> None:
-    """Makes what was made, renamed or removed in a folder safe."""
+    """Syncs a folder, so that what was made, renamed or removed in it is safe."""
     handle = os.open(path, os.O_RDONLY | os.O_DIRECTORY)
     try:
         os.fsync(handle)
@@ -28,7 +29,7 @@ def sync_file(path: str) -> None:
 
 
 def write_safely(path: str, data: bytes) -> None:
-    """Writes a file under another name, makes it safe, and puts it in place: a reader sees the old bytes or the new ones."""
+    """Writes a file under another name, syncs it, and renames it: a reader sees either the old bytes or the new ones."""
     folder, name = os.path.split(path)
     part = os.path.join(folder, f".{name}.part")
     with open(part, "wb") as file:
@@ -40,13 +41,13 @@ def write_safely(path: str, data: bytes) -> None:
 
 
 def write_record(path: str, record: Record) -> None:
-    """Writes a record as JSON, each of its parts on a line."""
+    """Writes a record as JSON, with one line for each of its parts."""
     parts = ",\n".join(f" {json.dumps(name)}: {json.dumps(part)}" for name, part in {"format": FORMAT, **record}.items())
     write_safely(path, f"{{\n{parts}\n}}\n".encode("ascii"))
 
 
 def read_record(path: str) -> Record:
-    """A record, which has to be one of this format."""
+    """Returns a record, and raises Wrong if the file is not a record of this format."""
     try:
         record = json.loads(bytes_of(path))
     except ValueError as error:
@@ -57,7 +58,7 @@ def read_record(path: str) -> Record:
 
 
 def now() -> str:
-    """The moment in local time with its offset, to the second."""
+    """Returns the present local time with its offset, to the second."""
     return datetime.datetime.now().astimezone().isoformat(timespec="seconds")
 
 
@@ -66,5 +67,5 @@ def at_moment(seconds: float) -> str:
 
 
 def shown(text: str) -> str:
-    """A text of a stranger on one line, with control bytes escaped."""
+    """Returns a foreign text on one line, with control bytes escaped."""
     return visible(text).replace("\n", "\\x0a")

@@ -1,4 +1,5 @@
-"""Rows that a person has looked at: released, they form an entry of their own; discarded, they are never posted."""
+"""Releases or discards held rows that a person has checked: released rows form an entry of their own; discarded ones are never
+posted."""
 from __future__ import annotations
 
 import os
@@ -13,7 +14,7 @@ from life_tools.desk.settings import Settings
 
 
 def chosen_rows(entry: Entry, lines: Iterable[int]) -> list[Record]:
-    """The held rows of an entry: all of them, or those of these lines of its file."""
+    """Returns the held rows of an entry: all of them, or those on these lines of its file."""
     wanted = set(lines)
     held = entry.held
     unknown = wanted - {each["line"] for each in held}
@@ -29,7 +30,7 @@ def demand_allowed(rows: Iterable[Record], name: str, settings: Settings) -> Non
 
 
 def demand_oldest(entry: Entry, rows: list[Record], log: Log) -> None:
-    """Rows of a policy are released in the order in which they were handed in."""
+    """Raises Wrong unless the rows of each policy are released in the order in which they were handed in."""
     policies = {each["policy"] for each in rows}
     for other in log.undone():
         earlier = [each for each in other.held if each["policy"] in policies] if other.number < entry.number else []
@@ -45,7 +46,7 @@ def demand_oldest(entry: Entry, rows: list[Record], log: Log) -> None:
 
 @dataclass(frozen=True)
 class Judgement:
-    """What a person says of held rows: who it is, why, and the lines of the file, or none for all."""
+    """A person's judgement of held rows: who judged, why, and the lines of the file (empty for all lines)."""
 
     name: str
     because: str | None
@@ -56,7 +57,7 @@ class Judgement:
 
 
 def released(entry: Entry, log: Log, judgement: Judgement, settings: Settings) -> Entry:
-    """The new entry of rows that a person releases; the entry from which they come says so."""
+    """Returns the new entry of rows that a person releases; the entry from which they come records the release."""
     rows = chosen_rows(entry, judgement.lines)
     demand_allowed(rows, judgement.name, settings)
     demand_oldest(entry, rows, log)
@@ -66,7 +67,7 @@ def released(entry: Entry, log: Log, judgement: Judgement, settings: Settings) -
               "held": [], "runs": [], "lost": [], "rows": len(rows),
               "from": {"entry": entry.name, "rows": [each["row"] for each in rows],
                        "lines": [each["line"] for each in rows], **judgement.record()}}
-    # nothing lies in the inbox under this name, so an interrupted release is undone
+    # no file in the inbox has this name, so an interrupted release is undone
     record["file"] = {**entry.record["file"], "path": os.path.join(folder, "released")}
     made = Entry(folder, record)
     made.save()
@@ -78,7 +79,7 @@ def released(entry: Entry, log: Log, judgement: Judgement, settings: Settings) -
 
 
 def mark_released(entry: Entry, entry_named: Callable[[str], Entry]) -> None:
-    """Marks the rows of which a release was made, in the entry from which they come; once."""
+    """Marks released rows in the entry from which they come, if they are not marked yet."""
     origin = entry.record["from"]
     if origin is None or entry.record["state"] == CLAIMING:
         return
@@ -92,7 +93,7 @@ def mark_released(entry: Entry, entry_named: Callable[[str], Entry]) -> None:
 
 
 def discarded(entry: Entry, judgement: Judgement, settings: Settings) -> list[Record]:
-    """Rows that a person puts away; they are never posted, and later rows of their policies are no more held for them."""
+    """Discards rows: they are never posted, and later rows of their policies are no longer held because of them."""
     rows = chosen_rows(entry, judgement.lines)
     demand_allowed(rows, judgement.name, settings)
     for each in rows:

@@ -1,4 +1,4 @@
-"""What `day` and `log` say of entries and their rows."""
+"""Writes what `day` and `log` print about entries and their rows."""
 from __future__ import annotations
 
 import sys
@@ -16,14 +16,14 @@ HEAD = ["file", "entry", "accepted", "refused", "held", "left"]
 
 
 def row_of(entry: Entry) -> list[object]:
-    """An entry as a row: its file, its folder, and how many of its rows are accepted, refused, held and left."""
+    """Returns an entry's row: its file, its folder, and how many of its rows are accepted, refused, held and left."""
     record = entry.record
     refused = "whole" if record["refused_whole"] else len(record["refused"])
     return [entry.file, entry.shown, len(record["accepted"]), refused, len(entry.held), len(entry.left)]
 
 
 def print_entries(entries: Iterable[Entry]) -> None:
-    """The rows of entries on standard output, below a head; nothing where there is none."""
+    """Prints the rows of entries on standard output with a header row, or nothing if there are no entries."""
     rows = [row_of(entry) for entry in entries]
     if rows:
         write_rows(sys.stdout, [HEAD, *rows])
@@ -46,6 +46,6 @@ def held_text(entry: Entry, held: Record) -> str:
 
 
 def settled_text(held: Record) -> str:
-    """Who released or discarded a held row, and why."""
+    """Returns who released or discarded a held row, and why."""
     what = "discarded" if held["state"] == DISCARDED else "released"
     return f"{what} by {held['by']}" + (f": {held['because']}" if held["because"] else "")

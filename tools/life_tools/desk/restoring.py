@@ -1,4 +1,4 @@
-"""After a journal was restored from a backup: the rows that it lacks and the log has are to be posted anew."""
+"""Prepares a log after its journal was restored from a backup: rows that the journal lacks are to be posted again."""
 from __future__ import annotations
 
 import os
@@ -15,7 +15,7 @@ ACCEPTED = re.compile(",accepted,([0-9]{1,7})$", re.MULTILINE)
 
 
 def reopened(entry: Entry, count: int) -> int:
-    """Makes the accepted rows behind a count rows that are still to be posted; how many they are."""
+    """Makes accepted rows after position `count` rows that are still to be posted; returns how many."""
     record = entry.record
     lost = [each for each in record["accepted"] if each[1] > count]
     if lost:
@@ -24,14 +24,14 @@ def reopened(entry: Entry, count: int) -> int:
         record["void"] = [*record.get("void", []), *(run["run"] for run in record["runs"] if run["before"] >= count)]
         record["runs"] = [{**run, "after": min(run["after"], count)} for run in record["runs"] if run["before"] < count]
         record["state"] = OPEN
-        # the mark goes first, so that an interruption leaves an entry that is looked at
+        # the mark is removed first, so that after an interruption the entry is still looked at
         put(entry.path(DONE), None)
         entry.save()
     return len(lost)
 
 
 def cut(run: Run, count: int) -> None:
-    """Of a run the answers behind a count are void: its transcript ends before the first of them."""
+    """Removes from a run's transcript the first answer after position `count` and everything that follows it."""
     kept = []
     for line in run.transcript().splitlines(keepends=True):
         found = ACCEPTED.search(line)
@@ -42,8 +42,10 @@ def cut(run: Run, count: int) -> None:
 
 
 def restored(log: Log, journal: str) -> None:
-    """Opens each entry anew of which the journal lacks postings; nothing is done where the journal isn't a prefix of what the
-    log has."""
+    """Reopens each entry that has postings the journal lacks.
+
+    Raises Wrong, and changes nothing, if the journal is not a prefix of what the log has.
+    """
     demand(os.path.isfile(journal), f"there is no {journal}: put the backup in place first")
     count = shape_at(journal).count
     wrong = next(differences(journal, count, (each for each in found_in(log, Wanted()) if each.position <= count)), None)

@@ -1,7 +1,7 @@
-"""A run of the program: up to eight entries, each of which is a lane of its script.
+"""Runs the program on up to eight entries, each of which is one lane of the script.
 
-The record of the run, with its script, is on the disk before the program starts. So whatever happens then, the next `day`
-knows which rows may have been posted, and finds out which were.
+The record of the run, with its script, is on the disk before the program starts. So whatever happens then, the next `day` knows
+which rows may have been posted, and finds out which of them were.
 """
 from __future__ import annotations
 
@@ -26,21 +26,23 @@ from life_tools.scripts.lines import Line, lines_in
 
 UNBEGUN = ".new"
 DISK_FAULT = 8
-# so often a journal that can't be had is tried again though nobody is seen to have it
+# how often a run is repeated if the journal cannot be used although no process is seen to use it
 MOST_UNSEEN = 5
-# the script or its basis is refused, and nothing is posted
+# the statuses for which the script or its basis was refused and nothing was posted
 BAD_SCRIPT, BAD_BASIS = REFUSED_STATUSES = (3, 4)
 PACKAGE = os.path.dirname(os.path.dirname(os.path.abspath(__file__)))
 
 
 def posted_row(line: Line, lane: int) -> str:
-    """A row as it is posted: without quotes, under the lane of its entry."""
+    """Returns a row as it is posted: without quotes, and with the lane of its entry."""
     return ",".join([str(lane), *line.row.fields[1:]])
 
 
 def keys_of(lines: Iterable[Line]) -> set[int]:
-    """The policies of rows, and 0 where a row upgrades the journal or needs that: what two lanes of a run must not share, as
-    nobody knows which of them is answered first."""
+    """Returns what two lanes of a run must not share, because it is not known which lane is answered first.
+
+    These are the policies' numbers, and 0 if a row upgrades the journal or needs it to be upgraded.
+    """
     found = set()
     for line in lines:
         if line.command:
@@ -50,12 +52,15 @@ def keys_of(lines: Iterable[Line]) -> set[int]:
 
 
 def is_alone(lines: Iterable[Line]) -> bool:
-    """Whether rows value or trim: such an entry is a run by itself, since a basis that is refused refuses the whole run."""
+    """Returns whether any row is a valuation or a trim.
+
+    Such an entry gets a run of its own, because a refused basis would refuse the whole run.
+    """
     return any(line.command is None for line in lines)
 
 
 def chosen(entries: Sequence[Entry]) -> list[Entry]:
-    """The entries of the next run, in their order: none that shares a policy with one before it."""
+    """Returns the entries of the next run, in their order: none of them shares a policy with an entry before it."""
     found: list[Entry] = []
     taken: set[int] = set()
     size = 0
@@ -79,7 +84,8 @@ def chosen(entries: Sequence[Entry]) -> list[Entry]:
 # --- the record of a run ---
 
 def tools_sum() -> str:
-    """The SHA-256 of the tools: of their one file where they are installed, else of the files of their package."""
+    """Returns the SHA-256 of the tools: of their single file if they are installed, and otherwise of the files of their
+    package."""
     if os.path.isfile(os.path.dirname(PACKAGE)):
         return sum_of(os.path.dirname(PACKAGE))
     found = hashlib.sha256()
@@ -95,7 +101,7 @@ def count_of(journal: str) -> int:
 
 
 def new_run(log: Log, entries: Sequence[Entry], before: int, program: Asked) -> Run:
-    """The record of a run with its script: both are there, or neither."""
+    """Makes the record of a run together with its script: either both are there, or neither."""
     numbers = log.run_numbers()
     number = numbers[-1] + 1 if numbers else 1
     part = os.path.join(log.runs, UNBEGUN)
@@ -118,7 +124,7 @@ def new_run(log: Log, entries: Sequence[Entry], before: int, program: Asked) -> 
 
 
 def rows_of(run: Run) -> dict[int, tuple[str, int]]:
-    """Of each row of a run's script, by its number, the entry and the number of the row there."""
+    """Returns for each row number of a run's script the name of its entry and its row number there."""
     found, row = {}, 0
     for lane in run.record["lanes"]:
         for each in lane["rows"]:
@@ -136,7 +142,7 @@ def script_of(run: Run) -> list[Line]:
 
 @dataclass(frozen=True)
 class Program:
-    """How the program is started: which one, its folder, the basis file, and the lock that it keeps."""
+    """How the program is started: which program, the folder, the basis file, and the lock that it inherits."""
 
     asked: Asked
     folder: str
@@ -144,12 +150,12 @@ class Program:
     lock: int
 
     def run(self, run: Run, stop: Stopping) -> int:
-        """Runs the script; the status, or minus the signal that ended the program."""
+        """Runs the script. Returns the program's status, or minus the signal that ended it."""
         words = [*self.asked.words, "run", *(["--basis", self.basis] if self.basis != "basis.csv" else [])]
         with open(run.path(SCRIPT), "rb") as script, open(run.path(TRANSCRIPT), "wb") as text, \
                 open(run.path(REMARKS), "wb") as remarks:
             try:
-                # a write past a limit on the size of files is to fail like any other, so SIGXFSZ stays ignored
+                # SIGXFSZ stays ignored, so that a write past a limit on file sizes fails like any other write
                 ran = subprocess.Popen(words, cwd=self.folder, stdin=script, stdout=text, stderr=remarks,
                                        pass_fds=(self.lock,), restore_signals=False)
             except OSError as error:
@@ -163,14 +169,14 @@ class Program:
 
 
 def run_when_free(program: Program, run: Run, journal: str, patience: Patience, stop: Stopping) -> int:
-    """Runs the program, and again where another run had the journal: then it posted nothing."""
+    """Runs the program, and runs it again if another run used the journal, because then it posted nothing."""
     unseen, until = 0, time.monotonic() + patience.seconds
     while True:
         status = program.run(run, stop)
         is_over = stop.caught or time.monotonic() >= until
         if is_over or status != DISK_FAULT or run.transcript() != "diskfault\n":
             return status
-        # who had it may be gone by now; a disk that failed has no holder either, and is not tried for long
+        # the process that used it may have ended; a failed disk has no holder either, so the number of attempts is limited
         unseen = 0 if holder_of(journal) else unseen + 1
         if unseen > MOST_UNSEEN:
             return status
@@ -183,7 +189,7 @@ def run_when_free(program: Program, run: Run, journal: str, patience: Patience, 
 
 
 def refused_rows(lines: Iterable[Line], answer: str) -> list[int]:
-    """The rows for which a whole script is refused: the one that is no line, or those that need the basis."""
+    """Returns the rows for which a whole script was refused: the row that is not a line, or the rows that need the basis."""
     words = answer.split(",")
     if words[0] == "badscript":
         return [line.row.number for line in lines if words[1:2] == [str(line.row.number)]]

@@ -24,26 +24,28 @@ from life_tools.common.formats import Wrong, bytes_of
 
 NAME = "desk.toml"
 MOST_DAYS = 100_000
-# why a row is held: it equals a posting, its day, its premium, its number is in use, or another row of its number is held
+# why a row is held: it equals a posting; its day; its premium; its number is in use; an earlier row of its policy is held
 EQUAL, DAY, PREMIUM, NUMBER, POLICY = REASONS = ("equal", "day", "premium", "number", "policy")
 ALL = "all"
 
 
 @dataclass(frozen=True)
 class Settings:
-    """What `desk.toml` sets, with the defaults where it is silent."""
+    """What `desk.toml` sets, with the defaults for what it does not set."""
 
     days_back: int = 400
     days_ahead: int = 0
     premium_below_amount: bool = True
     least_of_net: Fraction = Fraction(1, 2)
     most_of_net: Fraction = Fraction(4)
-    # by name, the reasons for which that person may release a row; None where everybody may
+    # the reasons for which each person may release a row, by name; None if everybody may release every row
     release: dict[str, tuple[str, ...]] | None = field(default=None)
 
     def may_release(self, name: str, reason: str) -> bool:
-        """Whether a person may release a row held for this reason; one that may release anything may release rows that are
-        held only with another row."""
+        """Returns whether a person may release a row that is held for this reason.
+
+        Whoever may release for any reason may also release rows that are held only because an earlier row is.
+        """
         if self.release is None:
             return True
         allowed = self.release.get(name, ())
@@ -85,7 +87,7 @@ def releases_in(table: Any, path: str) -> dict[str, tuple[str, ...]]:
 
 
 def settings_in(data: bytes, path: str) -> Settings:
-    """The settings of a file's bytes; a key that is none is refused, since a mistyped one would set nothing."""
+    """Returns the settings of a file's bytes. An unknown key is refused, since a mistyped key would otherwise set nothing."""
     try:
         read = tomllib.loads(data.decode("utf-8"), parse_float=Decimal)
     except (tomllib.TOMLDecodeError, UnicodeDecodeError) as error:
@@ -106,6 +108,6 @@ def settings_in(data: bytes, path: str) -> Settings:
 
 
 def settings_of(folder: str) -> Settings:
-    """Those of a book's folder."""
+    """Returns the settings of a book's folder."""
     path = os.path.join(folder, NAME)
     return settings_in(bytes_of(path), path) if os.path.lexists(path) else Settings()

@@ -1,4 +1,4 @@
-"""What `day --status` reports: what is unfinished, what is held, and who is at work; nothing is changed."""
+"""Reports for `day --status` what is unfinished, what is held, and which process is at work; it changes nothing."""
 from __future__ import annotations
 
 import os
@@ -11,7 +11,7 @@ from life_tools.desk.reporting import held_text, print_entries
 
 
 def lines_of(entry: Entry) -> list[str]:
-    """What is said of an entry that is not done."""
+    """Returns the lines about an entry that is not done."""
     state = entry.record["state"]
     if state == CLAIMING:
         return [f"{entry.shown}: the claim of {entry.file} was interrupted; the next `day` finishes it"]
@@ -26,7 +26,7 @@ def lines_of(entry: Entry) -> list[str]:
 
 
 def report(log: Log, journal: str) -> int:
-    """Reports it: 1, or 0 where nothing is unfinished or held."""
+    """Prints the report. Returns 1, or 0 if nothing is unfinished or held."""
     demand(os.path.isdir(log.path), f"there is no {log.path}: `life-tools day` makes it")
     said = []
     for path, what in ((os.path.join(log.path, LOCK), "a `day` is at work"), (journal, "journal.life is in use")):

@@ -1,5 +1,7 @@
-"""What a signal does: it ends a `day` that waits or looks at once; during a posting the program gets it, and `day` notes what
-came of the run before it ends."""
+"""Handles signals: a `day` that waits or checks ends at once; during a posting the program gets the signal.
+
+In that case `day` first notes the result of the run, and then ends.
+"""
 from __future__ import annotations
 
 import signal
@@ -12,7 +14,7 @@ SIGNALS = (signal.SIGINT, signal.SIGTERM, signal.SIGHUP)
 
 
 class Stopped(BaseException):
-    """A signal ends the tool; nothing is being posted."""
+    """Raised when a signal ends the tool while nothing is being posted."""
 
 
 class Stopping:
@@ -30,13 +32,14 @@ class Stopping:
         self.pass_on()
 
     def pass_on(self) -> None:
-        """Gives the program the signal that was caught, if there are both."""
+        """Passes a caught signal to the program, if both are there."""
         if self.program is not None and self.caught is not None:
             self.program.send_signal(self.caught)
 
     @contextmanager
     def posting(self) -> Iterator[None]:
-        """From the start of the program until what came of its run is noted; a signal of that time ends the tool then."""
+        """Covers the time from the program's start until the result of its run is noted; a signal then ends the tool only
+        afterwards."""
         self.is_posting = True
         try:
             yield
@@ -50,8 +53,10 @@ class Stopping:
 
 @contextmanager
 def stopping() -> Iterator[Stopping]:
-    """Signals are handled so meanwhile, but for those that the caller ignores, as `nohup` does. A lease that is asked for may
-    bring SIGIO, which would end the tool."""
+    """Handles signals by `Stopping` while the context lasts, except signals that the caller ignores, as `nohup` does.
+
+    SIGIO is ignored, because a request for a lease may bring it and it would end the tool.
+    """
     handler = Stopping()
     heeded = [number for number in SIGNALS if signal.getsignal(number) != signal.SIG_IGN]
     before = {number: signal.signal(number, handler.handle) for number in heeded}

@@ -1,4 +1,4 @@
-"""Waiting: for another `day` of the folder, and for a run that has the journal. Each wait says what it waits for."""
+"""Waits for another `day` of the folder, and for a run that uses the journal; each wait prints what it waits for."""
 from __future__ import annotations
 
 import fcntl
@@ -13,14 +13,14 @@ LOOK_EVERY = 0.2
 
 
 class Patience:
-    """So many seconds for each wait."""
+    """The number of seconds that each wait may take."""
 
     def __init__(self, seconds: float) -> None:
         self.seconds = seconds
         self.told: str | None = None
 
     def wait(self, why: Callable[[], str | None]) -> str | None:
-        """Waits until nothing is in the way; returns what still is at the end of the time."""
+        """Waits until `why` returns None; after the time is over it returns the last reason."""
         until = time.monotonic() + self.seconds
         while found := why():
             if time.monotonic() >= until:
@@ -37,7 +37,10 @@ def is_alive(holder: str) -> bool:
 
 
 def lock_log(path: str, patience: Patience) -> int:
-    """The lock of `log/`, which the program of a run keeps too: as long as that goes on, no other `day` takes up its rows."""
+    """Returns the lock of `log/`.
+
+    The program of a run inherits it, so no other `day` takes up the rows while that run lasts.
+    """
     handle = os.open(path, os.O_RDWR | os.O_CREAT | os.O_CLOEXEC, 0o666)
 
     def why() -> str | None:
@@ -59,7 +62,7 @@ def lock_log(path: str, patience: Patience) -> int:
 
 
 def wait_for_journal(journal: str, patience: Patience) -> None:
-    """Waits until no run has the journal, as far as the system says; `Wrong` at the end of the time."""
+    """Waits until no run uses the journal, as far as the system reports it, and raises Wrong when the time is over."""
     def why() -> str | None:
         holder = holder_of(journal)
         return f"{journal} is in use by {holder}" if holder else None
