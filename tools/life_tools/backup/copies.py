@@ -1,12 +1,12 @@
-"""The copy of a book in a folder, and how what was added since is appended to it.
+"""Keeps the copy of a book in a folder, and appends to it what was added to the book since.
 
     journal.prefix    the journal's first 17 bytes and 65 for each posting, without the commit byte that ends the journal
-    backup.seal       a seal of journal.prefix, and of the basis and its tables in files/ (life-tools seal tells its lines)
+    backup.seal       a seal of journal.prefix, and of the basis and its tables in files/ (journal/seals.py has the format)
     files/            basis and tables, desk.toml, the folder's seals and log/
-    .lock             locked while somebody copies
+    .lock             locked while a process copies
 
-Bytes of `journal.prefix` that the seal covers are never changed. What lies behind them was not sealed: a copier was killed, or
-its machine. It stays if the journal has the same bytes, and is cut off if not.
+Bytes of `journal.prefix` that the seal covers are never changed. Bytes after them are there if a copier, or its machine, was
+stopped before the seal was written. They are kept if the journal has the same bytes, and cut off otherwise.
 """
 from __future__ import annotations
 
@@ -32,14 +32,15 @@ RECORDS_AT_ONCE = 1 << 16
 
 
 class Differs(Wrong):
-    """The copy is of another book, or one of both was changed."""
+    """The copy is of another book, or the copy or the journal was changed."""
 
     status = 1
 
 
 @dataclass(frozen=True)
 class Copied:
-    """What a copy did: how many postings are copied, how many of them now, and how many are left since they may not be safe."""
+    """The result of a copy: postings copied in total, postings added by it, and postings left out because they may not be safe
+    yet."""
 
     count: int
     added: int
@@ -48,7 +49,7 @@ class Copied:
 
 @contextmanager
 def locked(folder: str) -> Iterator[None]:
-    """Keeps other copiers off a copy."""
+    """Locks a copy against other copiers, and raises Wrong if another one has locked it."""
     os.makedirs(folder, exist_ok=True)
     handle = os.open(os.path.join(folder, LOCK), os.O_RDWR | os.O_CREAT | os.O_CLOEXEC, 0o666)
     try:
@@ -61,13 +62,13 @@ def locked(folder: str) -> Iterator[None]:
 
 
 def seal_in_copy(folder: str) -> Seal | None:
-    """The seal of a copy; none of one that was begun only."""
+    """Returns the seal of a copy, or None if the copy has no seal yet."""
     path = os.path.join(folder, SEAL)
     return seal_at(path) if os.path.lexists(path) else None
 
 
 def pieces(file: BinaryIO, start: int, end: int) -> Iterator[bytes]:
-    """The bytes of a file from a place on up to another, as far as it has them."""
+    """Yields the bytes of a file from `start` to `end`, or to the end of the file if it is shorter."""
     while start < end and (piece := os.pread(file.fileno(), min(AT_ONCE, end - start), start)):
         start += len(piece)
         yield piece
@@ -81,14 +82,17 @@ def sum_of(file: BinaryIO, end: int) -> str:
 
 
 def unsealed_part(copy: BinaryIO, journal: BinaryIO, start: int, end: int) -> int:
-    """Where a copy goes on: behind what was not sealed, if the journal has the same bytes there, else where the seal ends."""
+    """Returns the place from which the journal is to be appended to a copy.
+
+    Unsealed bytes at the end of the copy are kept if the journal has the same; otherwise the place is where the sealed bytes end.
+    """
     length = min(os.fstat(copy.fileno()).st_size, end)
     is_same = all(a == b for a, b in zip(pieces(copy, start, length), pieces(journal, start, length)))
     return length if is_same else start
 
 
 def demand_same(copy: BinaryIO, journal: BinaryIO, seal: Seal, names: tuple[str, str]) -> None:
-    """Demands that the copy and the journal both begin with what was sealed."""
+    """Raises Differs unless the copy and the journal both begin with the sealed bytes."""
     for file, name in ((copy, names[0]), (journal, names[1])):
         if os.fstat(file.fileno()).st_size < seal.size or sum_of(file, seal.size) != seal.sum:
             raise Differs(f"{name}: its first {seal.size} bytes aren't the {seal.position} postings that were copied; nothing "
@@ -100,7 +104,7 @@ def append(copy: BinaryIO, journal: BinaryIO, start: int, end: int) -> None:
     copy.truncate(start)
     place = start
     for piece in pieces(journal, start, end):
-        # a disk that gets full takes a part of it, and fails at the next one
+        # a disk that fills up takes a part of the piece, and fails at the next write
         while piece:
             written = os.pwrite(copy.fileno(), piece, place)
             place, piece = place + written, piece[written:]
@@ -111,7 +115,7 @@ def append(copy: BinaryIO, journal: BinaryIO, start: int, end: int) -> None:
 
 
 def newest_day(journal: BinaryIO, before: Seal | None, safe: Safe, path: str) -> datetime.date | None:
-    """The latest day of the copied postings."""
+    """Returns the latest day of the copied postings, or None if there are none."""
     days = [before.day if before else None]
     for start in range(before.position if before else 0, safe.count, RECORDS_AT_ONCE):
         end = min(start + RECORDS_AT_ONCE, safe.count)
@@ -121,7 +125,7 @@ def newest_day(journal: BinaryIO, before: Seal | None, safe: Safe, path: str) ->
 
 
 def new_seal(journal: BinaryIO, copy: BinaryIO, before: Seal | None, safe: Safe, path: str, files: tuple[Sealed, ...]) -> Seal:
-    """The seal of what the copy has now, if the journal has the same."""
+    """Returns the seal of what the copy has now, and raises Wrong if the journal has not the same."""
     found = sum_of(copy, safe.size)
     if found != sum_of(journal, safe.size):
         raise Wrong(f"{path}: what was copied isn't what the journal has; the copy is as it was sealed before")
@@ -130,7 +134,7 @@ def new_seal(journal: BinaryIO, copy: BinaryIO, before: Seal | None, safe: Safe,
 
 
 def copy_journal(path: str, folder: str, files: tuple[Sealed, ...]) -> Copied:
-    """Appends to the copy in a folder what a journal has more and is safe; the copy is sealed anew, with these other files."""
+    """Appends the safe postings that the copy in a folder lacks, and seals the copy again together with these other files."""
     seal = seal_in_copy(folder)
     names = os.path.join(folder, PREFIX), path
     with opened(path) as journal, opened_copy(names[0]) as copy:
@@ -153,7 +157,7 @@ def copy_journal(path: str, folder: str, files: tuple[Sealed, ...]) -> Copied:
 
 @contextmanager
 def opened_copy(path: str) -> Iterator[BinaryIO]:
-    """The file that is appended to, made where there is none."""
+    """Opens the file that is appended to, and makes it if there is none."""
     is_new = not os.path.lexists(path)
     handle = os.open(path, os.O_RDWR | os.O_CREAT | os.O_CLOEXEC | os.O_NOFOLLOW, 0o666)
     with os.fdopen(handle, "r+b", buffering=0) as file:

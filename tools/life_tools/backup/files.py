@@ -1,4 +1,4 @@
-"""What a copy keeps beside the journal: the basis and its tables, desk.toml, the folder's seals, and the log."""
+"""Copies the files beside the journal: the basis and its tables, desk.toml, the folder's seals, and the log."""
 from __future__ import annotations
 
 import os
@@ -17,14 +17,14 @@ SEALS = ".seal"
 
 
 def book_files(folder: str, bases: Sequence[str]) -> list[str]:
-    """The names of the files beside the journal, but for the log's."""
+    """Returns the names of the book's files other than the journal and the log."""
     seals = sorted(name for name in os.listdir(folder) if name.endswith(SEALS) and not name.startswith("."))
     names = [*(name for basis in bases for name in basis_files(folder, basis)), SETTINGS, *seals]
     return [name for name in dict.fromkeys(names) if os.path.isfile(os.path.join(folder, name))]
 
 
 def log_files(folder: str) -> Iterator[str]:
-    """The names of the log's files, the oldest entries first."""
+    """Yields the names of the log's files, those of the oldest entries first."""
     for above, below, names in os.walk(os.path.join(folder, LOG)):
         below.sort()
         for name in sorted(names):
@@ -33,7 +33,7 @@ def log_files(folder: str) -> Iterator[str]:
 
 
 def is_as_copied(path: str, copy: str) -> bool:
-    """Whether a file has the length and the time of its copy."""
+    """Returns whether a file has the length and the time of its copy."""
     try:
         one, other = os.stat(path), os.lstat(copy)
     except FileNotFoundError:
@@ -42,7 +42,7 @@ def is_as_copied(path: str, copy: str) -> bool:
 
 
 def make_folder(path: str) -> None:
-    """Makes a folder and those above it, each safe in the one above it."""
+    """Makes a folder and those above it, and syncs the folder above each, so that they are safe."""
     if not os.path.isdir(path):
         make_folder(os.path.dirname(path))
         os.mkdir(path)
@@ -50,7 +50,7 @@ def make_folder(path: str) -> None:
 
 
 def copy_file(path: str, copy: str) -> None:
-    """Copies a file, which is there whole or as it was before, with its time."""
+    """Copies a file with its time; the copy is replaced as a whole, or stays as it was."""
     make_folder(os.path.dirname(copy))
     part = os.path.join(os.path.dirname(copy), f".{os.path.basename(copy)}.part")
     with opened(path) as file, open(part, "wb") as written:
@@ -64,7 +64,7 @@ def copy_file(path: str, copy: str) -> None:
 
 
 def copy_files(folder: str, names: Iterator[str] | Sequence[str], to: str) -> int:
-    """Copies those files that changed; how many they were. One that was removed meanwhile is passed over."""
+    """Copies the files that changed, and returns how many. A file that is removed meanwhile is skipped."""
     copied = 0
     for name in names:
         path, copy = os.path.join(folder, name), os.path.join(to, name)
@@ -80,5 +80,5 @@ def copy_files(folder: str, names: Iterator[str] | Sequence[str], to: str) -> in
 
 
 def sealed_copies(to: str, bases: Sequence[str]) -> tuple[Sealed, ...]:
-    """The sums of the copies of the bases that are there, and of their tables."""
+    """Returns the names, lengths and sums of the copied bases and of their tables."""
     return sealed_files(to, [basis for basis in bases if os.path.isfile(os.path.join(to, basis))])

@@ -1,7 +1,7 @@
-"""A copy on another machine: what a copy in a folder here has more is sent there by rsync over ssh.
+"""Copies to another machine: rsync over ssh sends there what the copy on this machine has more.
 
-`rsync --append-verify` would write a file anew whose beginning isn't the same. So the sums of what both have are compared
-first, and nothing is sent where they differ.
+`rsync --append-verify` would rewrite a file whose beginning differs. Therefore the checksums of the bytes that both have are
+compared first, and nothing is sent if they differ.
 """
 from __future__ import annotations
 
@@ -18,7 +18,7 @@ from life_tools.journal.seals import is_sum
 SSH = "ssh -o BatchMode=yes -o ConnectTimeout=20"
 # HOST:FOLDER or USER@HOST:FOLDER
 PLACE = re.compile(r"((?:[^@:/\s-][^@:/\s]*@)?[^@:/\s-][^@:/\s]*):(.+)")
-# what the other machine has: the length of its file, and how much of it was sealed
+# prints what the other machine has: the length of its file, and how many bytes of it were sealed
 SIZES = ("mkdir -p {0}/{1} && cd {0} && if [ -e {2} ]; then stat -c %s {2}; else echo 0; fi && "
          "if [ -e {3} ]; then sed -n 's/^front,\\([0-9]*\\),.*/\\1/p' {3}; else echo 0; fi")
 SUM = "cd {0} && head -c {1} {2} | sha256sum"
@@ -27,13 +27,16 @@ SYNCED = "cd {0} && sync -f {1} && head -c {2} {1} | sha256sum"
 
 
 def is_place(to: str) -> bool:
-    """Whether it names a folder of another machine, as rsync takes it: a folder here with a colon is named by ./"""
+    """Returns whether the argument names a folder on another machine, by rsync's rule.
+
+    A local name with a colon needs ./ before it.
+    """
     return ":" in to.partition("/")[0]
 
 
 @dataclass(frozen=True)
 class Place:
-    """A folder of another machine, and the command that leads there."""
+    """A folder on another machine, and the command that connects to it."""
 
     host: str
     folder: str
@@ -44,7 +47,7 @@ class Place:
         return f"{self.host}:{self.folder}"
 
     def asked(self, command: str, *values: object) -> list[str]:
-        """The lines that a command prints there."""
+        """Runs a command on the other machine and returns the words that it prints."""
         words = [*shlex.split(self.ssh), self.host, command.format(shlex.quote(self.folder), *values)]
         ran = run(words)
         if ran.returncode:
@@ -82,7 +85,7 @@ def place_in(to: str, ssh: str) -> Place:
 
 
 def demand_same(place: Place, here: str, size: int) -> None:
-    """Demands that both files begin with the same bytes."""
+    """Raises Differs unless both files begin with the same `size` bytes."""
     with opened(here) as file:
         if size and sum_of(file, size) != place.sum_of_first(size):
             raise Differs(f"{place.shown}/{PREFIX}: its first {size} bytes aren't those of {here}; nothing was sent. Keep both, "
@@ -90,7 +93,7 @@ def demand_same(place: Place, here: str, size: int) -> None:
 
 
 def fit_end(place: Place, here: str, size: int, there: int, sealed: int) -> None:
-    """What the other machine has behind its seal stays if it is the same here, and is cut off if not."""
+    """Cuts the other machine's file back to its sealed bytes if the bytes after them differ from this machine's."""
     if there > sealed:
         with opened(here) as file:
             is_same = there <= size and sum_of(file, there) == place.sum_of_first(there)
@@ -99,7 +102,7 @@ def fit_end(place: Place, here: str, size: int, there: int, sealed: int) -> None
 
 
 def send_copy(folder: str, place: Place) -> int:
-    """Sends what a copy has more than that of the other machine; how many bytes of the journal they were."""
+    """Sends what the other machine's copy lacks, and returns how many bytes of the journal that was."""
     seal = seal_in_copy(folder)
     demand(seal, f"{folder} has no seal")
     assert seal

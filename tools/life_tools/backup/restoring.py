@@ -1,4 +1,4 @@
-"""A book made of a copy: in a folder without one, and only of bytes that are as they were sealed."""
+"""Makes a book from a copy: only in a folder that has no book, and only if the sealed bytes are unchanged."""
 from __future__ import annotations
 
 import os
@@ -13,26 +13,26 @@ from life_tools.desk.records import sync_folder
 from life_tools.journal.seals import Seal, file_difference, front_difference
 from life_tools.journal.wholeness import CHECKPOINT, JOURNAL, Shape, beside, shape_with
 
-# what a book may not have where one is made
+# what a folder may not contain if a book is to be made in it
 OWN = (JOURNAL, CHECKPOINT, LOG)
 
 
 class Restored(NamedTuple):
-    """A book that was made: its journal's shape by the log that came with it, and what differs from the seal."""
+    """A restored book: the shape of its journal by the log that came with it, and the differences from the seal."""
 
     shape: Shape
     differences: list[str]
 
 
 def demand_free(folder: str) -> None:
-    """Demands that nothing is in the way of a new book."""
+    """Raises Wrong if the folder already has a file of a book."""
     for name in OWN:
         path = os.path.join(folder, name)
         demand(not os.path.lexists(path), f"{path} is there already; nothing was restored: name an empty folder")
 
 
 def seal_of_copy(copy: str) -> Seal:
-    """The seal of a copy whose journal is as it was sealed."""
+    """Returns the seal of a copy, and raises an error if the copy's journal is not as it was sealed."""
     seal = seal_in_copy(copy)
     if seal is None:
         raise Wrong(f"{copy} has no {SEAL}, so it is no finished backup")
@@ -43,7 +43,7 @@ def seal_of_copy(copy: str) -> Seal:
 
 
 def write_journal(copy: str, seal: Seal, path: str) -> None:
-    """Writes the journal of the sealed postings: their bytes and a closed commit byte. It is there whole or not at all."""
+    """Writes the journal of the sealed postings: their bytes and a commit byte of 0. The file is complete or not there at all."""
     part = os.path.join(os.path.dirname(path), f".{os.path.basename(path)}.part")
     with opened(os.path.join(copy, PREFIX)) as prefix, open(part, "wb") as written:
         for piece in pieces(prefix, 0, seal.size):
@@ -56,7 +56,7 @@ def write_journal(copy: str, seal: Seal, path: str) -> None:
 
 
 def all_files(top: str) -> list[str]:
-    """The files of a copy, by their names in the book."""
+    """Returns the files of a copy by the names that they have in the book."""
     found = []
     for above, _, names in os.walk(top):
         found += [os.path.relpath(os.path.join(above, name), top) for name in names if not name.endswith(".part")]
@@ -64,7 +64,10 @@ def all_files(top: str) -> list[str]:
 
 
 def restore(copy: str, folder: str) -> Restored:
-    """Makes a book of a copy. The journal comes last: a folder without one is no book yet, and this may be called again."""
+    """Makes a book from a copy.
+
+    The journal is written last: a folder without one is not a book yet, so this can be called again after an interruption.
+    """
     seal = seal_of_copy(copy)
     folder = os.path.abspath(folder)
     os.makedirs(folder, exist_ok=True)

@@ -1,8 +1,9 @@
-"""How many postings of a journal are safe on its disk, found out while a run may be adding to it, and without a lock.
+"""Finds out how many postings of a journal are safe on its disk, without a lock and while a run may be posting.
 
-The program writes a posting in two steps. It writes the record and a closed commit byte after it, and syncs; then it sets the
-record's own commit byte to 1, and syncs again. So the last posting that shows may not be safe yet, and all before it are. It
-is safe, too, if a next record stands behind it already; or if no process has the journal and a sync of ours succeeds.
+The program writes a posting in two steps. It writes the record and after it a commit byte of 0, and syncs; then it sets the
+record's own commit byte to 1, and syncs again. So the last posting that can be read may not be safe yet, but all before it are.
+The last one is safe, too, if the next record is already written after it, or if no process uses the journal and our own sync
+succeeds.
 """
 from __future__ import annotations
 
@@ -19,19 +20,19 @@ from life_tools.journal.wholeness import DAMAGED, Damaged, Noted, Shape, beside,
 
 @dataclass(frozen=True)
 class Safe:
-    """The postings of a journal that are safe, and how many more show that may not be so."""
+    """The number of safe postings of a journal, and how many more can be read but may not be safe."""
 
     count: int
     under_way: int
 
     @property
     def size(self) -> int:
-        """Their bytes, without the commit byte that ends the journal."""
+        """Returns the number of their bytes, without the commit byte that ends the journal."""
         return gate_of(self.count)
 
 
 def counted(file: BufferedReader, path: str) -> tuple[int, int]:
-    """The count and the length of a journal's file."""
+    """Returns the count and the length of a journal's file."""
     blocks = Blocks(file).through()
     count = demanded(blocks, path)
     demand(not is_unfinished_creation(blocks.front), f"{path} has no posting yet: the program hasn't ended its creation")
@@ -44,8 +45,8 @@ def demand_undamaged(shape: Shape) -> None:
 
 
 def safe_count(file: BufferedReader, path: str, copied: int) -> Safe:
-    """The safe postings of an opened journal, of which so many were copied before."""
-    # who notes a count does so behind the journal: so this is read before it
+    """Returns the safe postings of an opened journal; `copied` of them were copied before."""
+    # whoever notes a count does so after the posting is in the journal, so the notes are read before the journal
     noted: tuple[Noted, ...] = tuple(noted_by(*beside(path)))
     is_free = holder_of(path) is None
     count, length = counted(file, path)
