@@ -1,6 +1,6 @@
-"""The exact reserve of a policy on a day, in fractions, from the public standards alone.
+"""Computes the exact reserve of a policy on a day in fractions, from the public standards alone.
 
-The Commissioners Reserve Valuation Method and the minimum reserves of NAIC Model 820, and the sums of Dickson, Hardy
+These are the Commissioners Reserve Valuation Method and the minimum reserves of NAIC Model 820, and the sums of Dickson, Hardy
 and Waters (docs/explanation/reserves.md).
 """
 from __future__ import annotations
@@ -15,12 +15,12 @@ from life_tools.tables.basis import BasisRow, Table
 
 RENEWAL_PREMIUMS = 19
 HIGHEST_FIRST_RATE = Fraction(1, 2)
-# the year of the reserve, and its exact value in cents or the word why there is none
+# the policy year of the reserve, and its exact value in cents, or the word that says why there is none
 Worth = Tuple[int, Union[Fraction, str]]
 
 
 class Cover:
-    """What is insured by a table: from the age on for so many years, with so many yearly premiums."""
+    """What is insured by a table: from an age for a number of years, with a number of yearly premiums."""
 
     def __init__(self, table: Table, age: int, years: int, payments: int, matures: bool, discount: Fraction) -> None:
         self.rates: Sequence[Fraction] = table.rates[age - table.first:]
@@ -28,7 +28,11 @@ class Cover:
         self.known: Dict[int, tuple[Fraction, Fraction]] = {}
 
     def values_at(self, year: int) -> tuple[Fraction, Fraction]:
-        """At a year: of 1 at the end of the year of death or of the cover, and of 1 at the start of each premium year."""
+        """Returns the values at the start of a policy year of two streams.
+
+        The first is 1 paid at the end of the year of death, and at the end of the cover if the policy matures; the second is 1
+        paid at the start of each premium year.
+        """
         if year not in self.known:
             self.known[year] = self.summed(year)
         return self.known[year]
@@ -45,9 +49,9 @@ class Cover:
 
 
 class InForce:
-    """A policy's cover with its premiums: the modified net premium, the excess that it rests on, and the reserves of 1.
+    """A policy's cover with its premiums, for an amount of 1: the modified net premium, the excess in it, and the reserves.
 
-    The table is that of the issue age that is one year higher.
+    `table` is the table of the issue age that is one year higher.
     """
 
     def __init__(self, table: Table, cover: Cover, age: int) -> None:
@@ -55,7 +59,7 @@ class InForce:
         benefits, annuity = cover.values_at(0)
         self.first_year = cover.discount * cover.rates[0]
         self.renewal = (benefits - self.first_year) / (annuity - 1)
-        # the level premium may not be above that of whole life at an age one year higher
+        # the level premium (A) may not exceed the premium of whole life at an issue age that is one year higher
         left = table.last - age
         self.limit = type(cover)(table, age + 1, left, min(RENEWAL_PREMIUMS, left), True, cover.discount)
         whole_benefits, whole_annuity = self.limit.values_at(0)
@@ -64,7 +68,7 @@ class InForce:
         self.modified = (benefits + self.excess) / annuity
 
     def counting_on(self, premium: Fraction, year: int) -> Fraction:
-        """The reserve where so much comes in at the start of each premium year."""
+        """Returns the reserve of 1 if `premium` is received at the start of each premium year."""
         benefits, annuity = self.cover.values_at(year)
         return max(benefits - premium * annuity, Fraction(0))
 
@@ -72,18 +76,19 @@ class InForce:
         return self.counting_on(self.modified, year)
 
     def minimum(self, gross: Fraction, year: int) -> Fraction:
-        """The minimum reserve, which counts on no more than is charged, and isn't below the terminal one."""
+        """Returns the minimum reserve of 1: it counts on no more than the gross premium, and is not below the terminal
+        reserve."""
         return max(self.terminal(year), self.counting_on(min(self.modified, gross), year))
 
     def net_premium(self, year: int) -> Fraction:
-        """The net premium of a year: of the first without the excess, and none after the last premium."""
+        """Returns the net premium of a year: in the first year without the excess, and 0 after the last premium."""
         if year == 0:
             return self.modified - self.excess
         return self.modified if year < self.cover.payments else Fraction(0)
 
 
 class PaidUp:
-    """A paid-up policy's cover: no premium is taken off, nor is any charged."""
+    """The cover of a paid-up policy, for an amount of 1: no premium is charged, and none is deducted."""
 
     def __init__(self, cover: Cover) -> None:
         self.cover = cover
@@ -96,25 +101,27 @@ class PaidUp:
 
 
 Insured = Union[InForce, PaidUp]
-# what was worked out of 1, by the basis row's day and what of the policy matters
+# what was computed for an amount of 1, by the day of the basis row and the terms of the policy that matter
 Known = Dict[Tuple[datetime.date, int, int, int, bool, bool], Insured]
 
 
 def exact_value(insured: Insured, year: int, measure: str) -> Fraction:
-    """The exact reserve of 1 by a measure: `terminal`, or `mean`, which is the terminal one at the end of cover."""
+    """Returns the exact reserve of 1 by the measure `terminal` or `mean`; at the end of the cover both are the terminal
+    reserve."""
     if measure != "mean" or year == insured.cover.years:
         return insured.terminal(year)
     return (insured.terminal(year) + insured.net_premium(year) + insured.terminal(year + 1)) / 2
 
 
 def row_for(basis: Sequence[BasisRow], day: datetime.date) -> BasisRow | None:
-    """The row of a basis for a day of issue: the last whose day isn't after it."""
+    """Returns the basis row for a day of issue: the last row whose day is not after it, or None."""
     return next((row for row in reversed(basis) if row.day <= day), None)
 
 
 @dataclass(frozen=True)
 class Terms:
-    """What a policy is insured by: the basis row, the tables of its issue age and of the next one, years and premiums."""
+    """The terms by which a policy is valued: basis row, tables of its issue age and of the next, years of cover, number of
+    premiums."""
 
     row: BasisRow
     table: Table
@@ -125,7 +132,7 @@ class Terms:
 
 
 def terms_of(policy: Policy, basis: Sequence[BasisRow]) -> Terms | str:
-    """What a policy is insured by, or the word why it has no value."""
+    """Returns the terms by which a policy is valued, or the word that says why it has no value."""
     row = row_for(basis, policy.issued)
     if row is None:
         return "nobasis"
@@ -145,7 +152,7 @@ def terms_of(policy: Policy, basis: Sequence[BasisRow]) -> Terms | str:
 
 
 def insured_by(terms: Terms, age: int, is_paid_up: bool, kind: type[Cover] = Cover) -> Insured:
-    """What the reserve of 1 is worked out from; the kind of cover says how its values are."""
+    """Returns what the reserve of 1 is computed from; `kind` is the class that computes the cover's values."""
     cover = kind(terms.table, age, terms.years, terms.payments, terms.matures, terms.row.discount)
     return PaidUp(cover) if is_paid_up else InForce(terms.later, cover, age)
 
@@ -155,7 +162,10 @@ def is_insured(policy: Policy, on: datetime.date) -> bool:
 
 
 def insured_on(policy: Policy, basis: Sequence[BasisRow], on: datetime.date, known: Known) -> tuple[int, Insured | str | None]:
-    """The year, and what the policy's reserve of 1 is worked out from, or the word why there is none, or none at all."""
+    """Returns the policy year and what the reserve of 1 is computed from.
+
+    In place of that it returns the word that says why the policy has no value, or None if nothing is insured.
+    """
     if not is_insured(policy, on):
         return 0, None
     terms = terms_of(policy, basis)
@@ -171,9 +181,10 @@ def insured_on(policy: Policy, basis: Sequence[BasisRow], on: datetime.date, kno
 def worth(
     policy: Policy, basis: Sequence[BasisRow], on: datetime.date, known: Known | None = None, measure: str = "terminal"
 ) -> Worth:
-    """The year, and the exact value in cents by a measure or a word. By `deficiency` it is the ordinary one, the terminal.
+    """Returns the policy year, and the exact value in cents by a measure or the word that says why there is none.
 
-    `known` keeps what was worked out for further policies of the basis.
+    For `deficiency` this is the ordinary value, the terminal reserve. `known` keeps results for further policies of the same
+    basis.
     """
     year, insured = insured_on(policy, basis, on, {} if known is None else known)
     if insured is None:
@@ -184,9 +195,9 @@ def worth(
 def minimum_worth(
     policy: Policy, basis: Sequence[BasisRow], on: datetime.date, known: Known | None = None
 ) -> tuple[Fraction, Fraction] | None:
-    """The exact minimum reserve in cents, and the cents by which the premium that is charged is above the net premium.
+    """Returns the exact minimum reserve in cents, and by how many cents the gross premium exceeds the net premium.
 
-    There is neither of a policy of which no premium is to come, or that has no value: the ordinary one is the minimum.
+    Returns None if the policy has no premium to come or no value: then the ordinary reserve is the minimum.
     """
     year, insured = insured_on(policy, basis, on, {} if known is None else known)
     if not isinstance(insured, InForce) or year >= insured.cover.payments:

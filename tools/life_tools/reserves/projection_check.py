@@ -1,4 +1,4 @@
-"""Whether a printed projection is right: each pair of bounds encloses what is expected, worked out anew, and is narrow."""
+"""Checks a printed projection: each pair of bounds must enclose the expected amount, computed independently, and be narrow."""
 from __future__ import annotations
 
 from fractions import Fraction
@@ -14,12 +14,12 @@ def demand_encloses(bounds: tuple[int, int], exact: Fraction, policies: int, wha
     lower, upper = bounds
     demand(lower <= exact <= upper,
            f"{what}: {money(lower)} to {money(upper)} doesn't enclose what is expected, which is {float(exact / 100):.6f}")
-    # two cents, and one more for each thousand policies
+    # the bounds may be two cents apart, and one cent more for each thousand policies
     demand(1000 * (upper - lower) <= 2000 + policies, f"{what}: {money(lower)} and {money(upper)} lie too far apart")
 
 
 def check_years(printed: Printed, policies: Sequence[Policy], basis: Sequence[BasisRow]) -> None:
-    """Checks a projection by the policies at its position."""
+    """Checks a projection against the policies at its position."""
     demand(printed.policies == len(policies), f"there are {len(policies)} policies, and not {printed.policies}")
     found = expected_of(policies, basis, printed.day, len(printed.years))
     for j, (bounds, year) in enumerate(zip(printed.years, found.years)):

@@ -1,7 +1,8 @@
-"""What policies are expected to pay and to be paid by year, exactly, from the standards alone (docs/explanation/reserves.md).
+"""Computes exactly what policies are expected to pay and to be paid in each year, from the standards
+(docs/explanation/reserves.md).
 
-Rates are whole numbers of 10^-9, so what is expected of a year is a whole number over a power of 10^9: no sum here has
-to look for a common denominator.
+Rates are whole multiples of 10^-9, so the expected amount of a year is a whole number over a power of 10^9, and no sum here has
+to find a common denominator.
 """
 from __future__ import annotations
 
@@ -16,13 +17,13 @@ from life_tools.reserves.exact import Terms, is_insured, terms_of
 from life_tools.rules.policies import Policy, completed
 from life_tools.tables.basis import FINEST, BasisRow
 
-# what a year has: premiums, what deaths are paid, what those are paid who survive the last year of their cover
+# the amounts of a year: premiums, payments for deaths, and payments to those who survive the last year of their cover
 KINDS_OF_CASH = ("premiums", "deaths", "maturities")
 
 
 @dataclass
 class Year:
-    """What is expected of the year j, over the power j + 1 of 10^9, in cents."""
+    """The expected amounts of year j in cents, as numerators over 10^9 to the power j + 1."""
 
     sums: list[int] = field(default_factory=lambda: [0, 0, 0])
 
@@ -32,7 +33,7 @@ class Year:
 
 @dataclass
 class Expected:
-    """What is expected of some policies, and how many of them have a word."""
+    """What is expected of some policies, and how many of them have a word in place of a value."""
 
     years: list[Year]
     words: int = 0
@@ -47,7 +48,7 @@ class Expected:
         self.add_by(policy, terms, completed(policy.issued, on))
 
     def add_by(self, policy: Policy, terms: Terms, now: int) -> None:
-        """Adds a policy in a year of its cover; after the last nothing is expected."""
+        """Adds a policy that is in policy year `now`; after the last year of its cover nothing is expected."""
         rates = terms.table.rates[policy.age - terms.table.first:]
         owes = policy.status == "inforce"
         alive = 1
@@ -73,7 +74,7 @@ def expected_of(policies: Sequence[Policy], basis: Sequence[BasisRow], on: datet
 
 @dataclass(frozen=True)
 class Printed:
-    """A projection as it was printed; of each year the bounds in cents, lower and upper by kind."""
+    """A printed projection; `years` has for each year the lower and the upper bound in cents of each kind of payment."""
 
     day: datetime.date
     position: int
@@ -90,14 +91,14 @@ def numbers_in(row: list[str], most: int = MOST_COMMANDS) -> list[int]:
 
 
 def year_of(row: list[str], j: int) -> list[tuple[int, int]]:
-    """The bounds of a year's line, which has to be that of the year j."""
+    """Returns the bounds on a year's line, and raises Wrong if it is not the line of year j."""
     demand(len(row) == 8 and row[:2] == ["year", str(j)], f"{','.join(row)} isn't the line of year {j}")
     cents = [printed_cents(text) for text in row[2:]]
     return list(zip(cents[::2], cents[1::2]))
 
 
 def printed_projection(text: str) -> Printed:
-    """The projection of a text, which has to be that of `life project` and nothing else."""
+    """Returns the projection of a text, which must be what `life project` prints and nothing else."""
     rows = printed_rows(text)
     is_one = bool(rows) and rows[0][0] == "project" and len(rows[0]) == 5
     demand(is_one, "this isn't what life project prints: its first line is `project,ON,POSITION,POLICIES,YEARS`")

@@ -1,4 +1,4 @@
-"""Whether a printed valuation is right: each row encloses the exact value, worked out anew, and the total is their sum."""
+"""Checks a printed valuation: each row must enclose the exact value, computed independently, and the total must be their sum."""
 from __future__ import annotations
 
 import datetime
@@ -10,9 +10,9 @@ from life_tools.reserves.exact import Known, minimum_worth, worth
 from life_tools.rules.policies import Policy
 from life_tools.tables.basis import BasisRow
 
-# a lower and an upper bound lie at most so many cents apart
+# a lower and an upper bound are at most so many cents apart
 WIDEST = 2
-# and those of a net premium of 1 so much
+# and the bounds of a net premium of 1 are at most this far apart
 WIDEST_PREMIUM = Fraction(100_000, 10**16)
 
 
@@ -36,7 +36,7 @@ def demand_encloses(lower: int, upper: int, exact: Fraction, row: list[str]) -> 
 
 
 def check_minimum(row: list[str], bounds: Sequence[int], minimum: tuple[Fraction, Fraction] | None, policy: Policy) -> None:
-    """Demands that the minimum bounds and the last word are those of a policy's premium."""
+    """Raises Wrong unless the minimum bounds and the last word are right for the policy's premium."""
     word = row[-1]
     if minimum is None:
         is_right = word == "enough" and bounds[:2] == bounds[2:]
@@ -51,8 +51,10 @@ def check_minimum(row: list[str], bounds: Sequence[int], minimum: tuple[Fraction
 
 def check_row(row: list[str], policy: Policy, basis: Sequence[BasisRow], on: datetime.date, measure: str,
               known: Known) -> list[int]:
-    """Demands that a printed row is the policy's, by its year and its exact values in cents or the word; and gives the
-    bounds in cents, or none where there is a word."""
+    """Raises Wrong unless a printed row is right for the policy: its year, and bounds that enclose the exact values, or the word.
+
+    Returns the bounds in cents, or an empty list if the row has a word.
+    """
     year, exact = worth(policy, basis, on, known, measure)
     is_policy = row[:4] == ["row", str(policy.number), policy.status, str(year)]
     demand(is_policy, f"{','.join(row)} isn't that of policy {policy.number}, {policy.status}, year {year}")
@@ -69,13 +71,13 @@ def check_row(row: list[str], policy: Policy, basis: Sequence[BasisRow], on: dat
 
 
 def demand_policies(head: list[str], policies: Sequence[Policy]) -> None:
-    """Demands that a first line states the number of policies."""
+    """Raises Wrong unless a valuation's first line states the number of policies."""
     demand(head[4] == str(len(policies)), f"{','.join(head)}: there are {len(policies)} policies")
 
 
 def check_block(rows: list[list[str]], policies: Sequence[Policy], basis: Sequence[BasisRow], known: Known,
                 measure: str = "terminal") -> None:
-    """Checks the lines of a valuation by a measure, by the policies at its position."""
+    """Checks the lines of a valuation by a measure against the policies at its position."""
     head, *middle, total = rows
     demand(measure_of(head) == measure, f"{','.join(head)} isn't of the measure {measure}")
     demand_policies(head, policies)
@@ -89,7 +91,7 @@ def check_block(rows: list[list[str]], policies: Sequence[Policy], basis: Sequen
 
 
 def check_sample(lines: list[list[str]], policies: Sequence[Policy], basis: Sequence[BasisRow], measure: str) -> int:
-    """Checks some rows of a valuation, in any order, after its first line; gives their number. A total is passed over."""
+    """Checks some rows of a valuation, in any order, after its first line, and returns their number. A total is skipped."""
     head, *rest = lines
     rows = [row for row in rest if row[0] != "total"]
     demand_policies(head, policies)

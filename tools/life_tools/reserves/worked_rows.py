@@ -1,4 +1,4 @@
-"""One row of a valuation as a colleague reads it: what enters, the formula with its numbers, and the exact result."""
+"""Writes out one row of a valuation for a colleague: the inputs, the formulas with their numbers, and the exact result."""
 from __future__ import annotations
 
 import datetime
@@ -12,7 +12,7 @@ from life_tools.rules.policies import Policy, completed
 from life_tools.tables.basis import BasisRow
 
 PLACES = 9
-# an exact fraction with more digits than this is reported by its length
+# of a longer exact fraction only the number of digits is shown
 SHORT = 40
 RATES_A_LINE = 5
 WORDS = {
@@ -24,7 +24,7 @@ WORDS = {
 
 
 def decimal(value: Fraction, places: int = PLACES) -> str:
-    """A fraction as a decimal, rounded to the nearest, without floating point."""
+    """Returns a fraction as a decimal, rounded to the nearest, without floating point."""
     scaled = abs(value) * 10**places
     units = (scaled.numerator * 2 + scaled.denominator) // (scaled.denominator * 2)
     whole, part = divmod(units, 10**places)
@@ -33,7 +33,7 @@ def decimal(value: Fraction, places: int = PLACES) -> str:
 
 
 def fraction_words(exact: Fraction, whole: bool) -> str:
-    """An exact fraction, or, where it is long and isn't asked for whole, how many digits its parts have."""
+    """Returns an exact fraction; or, if it is long and not wanted in full, the number of digits of its two parts."""
     text = str(exact)
     if whole or len(text) <= SHORT:
         return text
@@ -41,12 +41,12 @@ def fraction_words(exact: Fraction, whole: bool) -> str:
 
 
 def cents_about(exact: Fraction) -> tuple[int, int]:
-    """The greatest cent that isn't above an exact amount in cents, and the least that isn't below."""
+    """Returns the greatest whole cent that is not above an exact amount in cents, and the least that is not below it."""
     return exact.numerator // exact.denominator, -(-exact.numerator // exact.denominator)
 
 
 class Worked:
-    """The lines of one worked row: `exact` is the value in cents by the measure, or none where there is a word."""
+    """The lines of one worked row. `exact` is the value in cents by the measure, or None if the policy has a word."""
 
     def __init__(self, policy: Policy, position: int, on: datetime.date, basis: Sequence[BasisRow], measure: str,
                  whole_fractions: bool = False) -> None:
