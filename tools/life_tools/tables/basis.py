@@ -1,7 +1,8 @@
-"""The basis file and its mortality tables, read by an XML parser, or the first fault of one (docs/reference/tables.md).
+"""Reads a basis file and its mortality tables with an XML parser, or finds the first fault of one (docs/reference/tables.md).
 
-The profile that the program reads is somewhat wider than XML (two attributes of one name, say). What the parser refuses is
-told by `NotXml`: of such a file this module can't say what the program makes of it, and `verdicts` asks the program itself.
+The profile that the program reads is somewhat wider than XML: it allows two attributes of the same name, for example. If the
+parser refuses a file, `NotXml` is raised: this module then cannot tell what the program makes of it, and `table_verdicts` asks
+the program itself.
 """
 from __future__ import annotations
 
@@ -23,13 +24,13 @@ FINEST = 10**9
 NAME = re.compile("[A-Za-z0-9][A-Za-z0-9._-]{0,63}")
 MARK = b"\xef\xbb\xbf"
 WHITE = " \t\n\r"
-# how UTF-16 begins, with a mark or with a `<`
+# the first bytes of UTF-16, with a byte order mark or with a `<`
 SIXTEEN = (b"\xff\xfe", b"\xfe\xff", b"<\0", b"\0<")
 AND, LONGER = ord("&"), len("&amp;") - len("&")
 
 
 class BadBasis(Wrong):
-    """The first bad file of a basis: its name, the place in it, and the word."""
+    """The first bad file of a basis: its name, the place in it, and the word for the fault."""
 
     def __init__(self, name: str, place: int, word: str) -> None:
         super().__init__(f"badbasis,{name},{place},{word}")
@@ -42,7 +43,7 @@ class NotXml(Wrong):
 
 @dataclass
 class Element:
-    """An element of a document: the byte of its `<`, what it has as attributes, its text, and its children in order."""
+    """An element of a document: the place of its `<`, its attributes, its text, and its children in order."""
 
     name: str
     at: int
@@ -60,7 +61,7 @@ class Element:
 
 @dataclass(frozen=True)
 class Table:
-    """The ages of a table from the first on, with the exact rate of death of each."""
+    """A table by age: its first age, and the exact rate of death at that age and at each later one."""
 
     first: int
     rates: tuple[Fraction, ...]
@@ -73,13 +74,13 @@ class Table:
         return self.first <= age <= self.last
 
     def along(self, issue_age: int) -> Table:
-        """The rates of a life that was insured at this age, by the age that it attains: the same for each issue age."""
+        """Returns the rates by attained age for a life insured at this age; they are the same for each issue age."""
         return self
 
 
 @dataclass(frozen=True)
 class SelectTable:
-    """For each issue age from the first on the rates by duration, and after these the ultimate rates by age."""
+    """A select and ultimate table: for each issue age from the first on the rates by duration, and the ultimate rates by age."""
 
     first: int
     periods: tuple[tuple[Fraction, ...], ...]
@@ -90,7 +91,7 @@ class SelectTable:
         return self.first + len(self.periods) - 1
 
     def along(self, issue_age: int) -> Table | None:
-        """The rates of a life that was insured at this age, by the age that it attains; below the first issue age none."""
+        """Returns the rates by attained age for a life insured at this age, or None below the first issue age."""
         if issue_age < self.first:
             return None
         if issue_age > self.last:
@@ -105,7 +106,7 @@ AnyTable = Union[Table, SelectTable]
 
 @dataclass(frozen=True)
 class BasisRow:
-    """From the day on: a table, and interest in basis points."""
+    """A basis row: the first day for which it is used, a table, and the interest in basis points."""
 
     day: datetime.date
     name: str
@@ -114,7 +115,7 @@ class BasisRow:
 
     @property
     def discount(self) -> Fraction:
-        """What 1 in a year is worth now."""
+        """Returns the present value of 1 that is due in a year."""
         return Fraction(10000, 10000 + self.points)
 
 
@@ -126,12 +127,12 @@ class Reader:
     def __init__(self, data: bytes) -> None:
         self.shift = len(MARK) if data.startswith(MARK) else 0
         if data[:2] in SIXTEEN:
-            # which the parser would take, and the program doesn't
+            # the parser would read UTF-16, but the program does not
             raise NotXml("it is written in UTF-16")
-        # an & stands for itself to the program, which knows no references
+        # to the program an & stands for itself, since it does not read references
         ands = [at for at, byte in enumerate(data[self.shift:]) if byte == AND] if AND in data else []
         self.ands = [at + LONGER * before for before, at in enumerate(ands)]
-        # read byte for byte, whatever the declaration says, as the program does
+        # like the program, read the file byte for byte, whatever its declaration says
         self.parser = expat.ParserCreate("iso-8859-1")
         self.open: list[Element] = []
         self.root: Element | None = None
@@ -148,7 +149,7 @@ class Reader:
             raise NotXml(f"it is no XML: {error}") from error
 
     def place(self, index: int) -> int:
-        """The place in the file of one in what the parser reads, where each & is longer."""
+        """Returns the place in the file of a place in the text that the parser reads, where each & is longer."""
         return index - LONGER * bisect_left(self.ands, index) + self.shift
 
     def refuse(self, *_: object) -> None:
@@ -186,7 +187,7 @@ def root_of(data: bytes) -> Element:
 # --- a table ---
 
 def rate_of(text: str) -> Fraction | None:
-    """A rate text's exact value, at most 1 and a whole number of 10^-9."""
+    """Returns the exact value of a rate's text, or None unless it is at most 1 and a whole multiple of 10^-9."""
     if not re.fullmatch(r"([0-9]+\.?[0-9]*|\.[0-9]+)([Ee][+-]?[0-9]{1,3})?", text):
         return None
     value = Fraction(text)
@@ -194,7 +195,7 @@ def rate_of(text: str) -> Fraction | None:
 
 
 def path_of(root: Element) -> tuple[list[Element], bool]:
-    """The elements from the root to the axis of the rates, as far as they are there, and whether they all are."""
+    """Returns the elements from the root to the axis of the rates, as far as they exist, and whether the path is complete."""
     path = [root]
     if root.name != "XTbML":
         return path, False
@@ -224,13 +225,13 @@ def demand_unscaled(table: Element, name: str) -> None:
 
 
 def label_of(element: Element) -> int | None:
-    """The whole number of one to three digits that an element is labelled with."""
+    """Returns the number of an element's label, which has one to three digits, or None if it has no such label."""
     label = element.attributes.get("t", "")
     return int(label) if re.fullmatch("[0-9]{1,3}", label) else None
 
 
 def next_age(element: Element, ages: list[int], name: str) -> int:
-    """The age of an element, which is one more than the last of those before it."""
+    """Returns the age of an element and raises BadBasis unless it is one more than the last of `ages`."""
     age = label_of(element)
     if age is None or age > MOST_AGE:
         raise BadBasis(name, element.at, "badage")
@@ -247,7 +248,7 @@ def rate_in(row: Element, name: str) -> Fraction:
 
 
 def table_by_age(rows: list[Element], name: str) -> Table:
-    """The table of one or more rows with their ages."""
+    """Returns the table of one or more rows with their ages."""
     ages: list[int] = []
     rates = []
     for row in rows:
@@ -257,7 +258,7 @@ def table_by_age(rows: list[Element], name: str) -> Table:
 
 
 def table_of(root: Element, name: str) -> AnyTable:
-    """The table of a document, or the first check that applies, as a fault of the file of this name."""
+    """Returns the table of a document, or raises BadBasis with the first check that fails for the file of this name."""
     path, is_whole = path_of(root)
     if not is_whole:
         raise BadBasis(name, path[-1].at, "notable")
@@ -274,19 +275,22 @@ def is_select(path: list[Element]) -> bool:
 
 
 def issue_axes_of(path: list[Element]) -> list[Element]:
-    """The axes of the issue ages: where the first axis has a label it is one of them, else they lie in it."""
+    """Returns the axes of the issue ages.
+
+    If the first axis has a label, it is one of them; otherwise they are inside it.
+    """
     values, axis = path[2:]
     return (values if "t" in axis.attributes else axis).those("Axis")
 
 
 def rows_by_duration(axis: Element) -> list[Element]:
-    """The rows in the axis of an issue age, or where it has none, in the first axis in it."""
+    """Returns the rows of an issue age's axis, or those of the first axis inside it if it has none itself."""
     inner = axis if axis.first("Y") else axis.first("Axis")
     return inner.those("Y") if inner else []
 
 
 def durations_of(axis: Element) -> list[Element]:
-    """The rows of an issue age, without the blank ones after the last that isn't blank."""
+    """Returns the rows of an issue age without the blank ones at the end."""
     rows = rows_by_duration(axis)
     while rows and is_blank(rows[-1]):
         rows.pop()
@@ -294,7 +298,7 @@ def durations_of(axis: Element) -> list[Element]:
 
 
 def period_of(axis: Element, age: int, name: str) -> tuple[Fraction, ...]:
-    """The rates of an issue age by duration: one or more, the first of duration 0 or 1."""
+    """Returns the rates of an issue age by duration: one or more, the first at duration 0 or 1."""
     rows = durations_of(axis)
     if not rows:
         raise BadBasis(name, axis.at, "badduration")
@@ -310,7 +314,7 @@ def period_of(axis: Element, age: int, name: str) -> tuple[Fraction, ...]:
 
 
 def ultimate_rows_of(root: Element) -> list[Element]:
-    """The rows of the ultimate rates, as far as they are there."""
+    """Returns the rows of the ultimate rates, or an empty list if a part of the path to them is missing."""
     places = root.those("Table")[1:]
     for name in ("Values", "Axis"):
         places = places[0].those(name) if places else []
@@ -332,7 +336,7 @@ def select_table_of(path: list[Element], name: str) -> SelectTable:
         raise BadBasis(name, table.at, "noultimate")
     ultimate = table_by_age(rows, name)
     for axis, age, period in zip(axes, ages, periods):
-        # ultimate rates that begin so late go on after the period, too
+        # ultimate rates that begin later than this leave a gap after the select period
         if ultimate.first > age + len(period):
             raise BadBasis(name, axis.at, "ultimategap")
     return SelectTable(ages[0], tuple(periods), ultimate)
@@ -347,7 +351,7 @@ def is_basis_row(row: Row) -> bool:
 
 
 def basis_rows(data: bytes, name: str) -> list[tuple[datetime.date, str, int]]:
-    """The rows of a basis file: day, table's name, basis points."""
+    """Returns the rows of a basis file: the day, the table's name and the basis points of each."""
     if len(data) > MOST_BASIS_BYTES:
         raise BadBasis(name, 0, "toolong")
     rows = rows_in(data)
@@ -365,7 +369,10 @@ def basis_rows(data: bytes, name: str) -> list[tuple[datetime.date, str, int]]:
 
 
 def file_in(folder: str, name: str, place: int) -> bytes:
-    """The bytes of a file of a basis, which may be absent or too long; the place is 0, or the row that names it."""
+    """Returns the bytes of a file of a basis, and raises BadBasis if it is absent or too long.
+
+    `place` is 0 for the basis file, and otherwise the number of the basis row that names the table.
+    """
     path = os.path.join(folder, name)
     if not os.path.lexists(path):
         raise BadBasis(name, place, "absent")
@@ -380,7 +387,7 @@ def file_in(folder: str, name: str, place: int) -> bytes:
 
 
 def read_basis(path: str) -> list[BasisRow]:
-    """The rows of a basis file with their tables, which lie in its folder; or the first bad file."""
+    """Returns the rows of a basis file with their tables, which are in its folder, or raises BadBasis for the first bad file."""
     folder, name = os.path.split(path)
     rows = basis_rows(file_in(folder, name, 0), name)
     tables: dict[str, AnyTable] = {}

@@ -1,4 +1,7 @@
-"""A foreign table made into one that the program takes: labels, rates, factors; each change is noted, and none is invented."""
+"""Converts a foreign table into one that the program takes: labels, rates, factors.
+
+Each change is noted, and no rate is invented.
+"""
 from __future__ import annotations
 
 import re
@@ -19,7 +22,7 @@ PLACES = 9
 
 @dataclass
 class Rounding:
-    """How many rates were rounded to nine places, and the largest change, with where it was."""
+    """How many rates were rounded to nine places, and the largest change with the place where it was made."""
 
     count: int = 0
     largest: Fraction = Fraction(0)
@@ -36,7 +39,7 @@ class Rounding:
 
 
 def rounded_units(exact: Fraction) -> int:
-    """The nearest whole number of 10^-9, a half up."""
+    """Returns the nearest whole number of 10^-9; a half is rounded up."""
     return int((exact * FINEST + HALF) // 1)
 
 
@@ -53,7 +56,7 @@ def exact_rate(row: Element, where: str) -> Fraction:
 
 @dataclass
 class Conversion:
-    """The tree of a file while it is made into a table; the changes in the order in which they are made."""
+    """The tree of a file while it is converted, and the changes in the order in which they are made."""
 
     root: Element
     changes: list[str]
@@ -74,7 +77,7 @@ class Conversion:
         return int(found[1])
 
     def labelled(self, elements: list[Element], what: str) -> list[int]:
-        """The labels of elements, which have to rise by one; others aren't filled in between."""
+        """Returns the labels of elements, and raises Wrong unless each is one more than the one before; gaps are not filled."""
         found = [self.label(element, what) for element in elements]
         for element, before, label in zip(elements[1:], found, found[1:]):
             why = "what lies between isn't invented" if label > before else "it isn't known which is right"
@@ -82,7 +85,7 @@ class Conversion:
         return found
 
     def without_blanks(self, axis: Element) -> list[Element]:
-        """The rows of an axis, of which blank ones at the end go; one in between is an error."""
+        """Removes the blank rows at the end of an axis and returns the others; a blank row elsewhere is an error later."""
         rows = axis.those("Y")
         while rows and is_blank(rows[-1]):
             axis.children.remove(rows.pop())
@@ -102,7 +105,7 @@ class Conversion:
             row.text = rate_text(units)
 
     def scale_of(self, table: Element, rows: list[Element]) -> Fraction:
-        """What the rates of a table are multiplied with, by its factor; the factor goes."""
+        """Returns the number by which a table's rates are multiplied, according to its scaling factor, and removes the factor."""
         element = factor_of(table)
         text = element.text.strip(WHITE) if element else ""
         if element is None or not text or re.fullmatch("[01]([.]0*)?", text):
@@ -140,7 +143,7 @@ class Conversion:
         self.take_by_age(tables[1], ultimate)
 
     def drop_empty_ages(self, path: list[Element], axes: list[Element]) -> None:
-        """The last issue ages, where they have no rate at all: above the last one all rates are ultimate."""
+        """Removes the last issue ages if they have no rates: for later issue ages all rates are ultimate."""
         holder = path[2] if axes[0] is path[3] else path[3]
         dropped = []
         while axes and not rows_by_duration(axes[-1]):
@@ -163,7 +166,10 @@ class Conversion:
 
 
 def way_of(factor: Fraction, most: Fraction) -> str:
-    """Whether rates are divided or multiplied: the one way, if there is one, by which none is above 1 that was above before."""
+    """Returns whether the rates are to be divided or multiplied by the factor.
+
+    Raises Wrong unless exactly one of the two brings rates above 1 to at most 1.
+    """
     ways = {"divide": most / factor, "multiply": most * factor}
     right = [way for way, scaled in ways.items() if most > 1 >= scaled]
     if len(right) != 1:
@@ -173,14 +179,14 @@ def way_of(factor: Fraction, most: Fraction) -> str:
 
 
 def rates_in(table: AnyTable) -> list[Fraction]:
-    """All rates in the order of the file."""
+    """Returns all rates in the order of the file."""
     if isinstance(table, SelectTable):
         return [rate for period in table.periods for rate in period] + list(table.ultimate.rates)
     return list(table.rates)
 
 
 def demand_path(root: Element, whose: str = "") -> list[Element]:
-    """The elements from the root to the axis of the rates, which have to be there."""
+    """Returns the elements from the root to the axis of the rates, and raises Wrong if one is missing."""
     path, is_whole = path_of(root)
     demand(is_whole, f"{whose}the path XTbML, Table, Values, Axis with rates Y in it breaks off after {path[-1].name[:40]} "
            f"(line {path[-1].at})")
@@ -188,7 +194,10 @@ def demand_path(root: Element, whose: str = "") -> list[Element]:
 
 
 def in_one_axis(path: list[Element]) -> bool:
-    """Puts issue axes that lie in Values with their rates directly in them into one axis; they would be read by age."""
+    """Puts the issue axes into one axis if they are directly in Values with rates directly in them; returns whether it did.
+
+    Without this they would be read as a table by age.
+    """
     values, axis = path[2:]
     axes = values.those("Axis")
     if is_select(path) or len(axes) < 2 or not all("t" in each.attributes for each in axes):
@@ -199,7 +208,7 @@ def in_one_axis(path: list[Element]) -> bool:
 
 
 def converted(document: Document, factor: str | None = None) -> tuple[bytes, list[str]]:
-    """The file of a document as the program takes it, and what was changed; each rate is that of the document, to nine places."""
+    """Returns a document's file as the program takes it, and the changes; each rate is that of the document, to nine places."""
     path, changes = demand_path(document.root), list(document.changes)
     if in_one_axis(path):
         path = demand_path(document.root)
@@ -221,7 +230,8 @@ def converted(document: Document, factor: str | None = None) -> tuple[bytes, lis
 
 
 def joined(select: Document, ultimate: Document) -> Document:
-    """A document of select rates with the first table of another one, of ultimate rates, after its first."""
+    """Returns the document of select rates with the first table of the document of ultimate rates inserted after its first
+    table."""
     paths = [demand_path(select.root, "the select file: "), demand_path(ultimate.root, "the ultimate file: ")]
     changes = [*(f"select: {change}" for change in select.changes), *(f"ultimate: {change}" for change in ultimate.changes)]
     if in_one_axis(paths[0]):

@@ -1,7 +1,7 @@
-"""Tables as others write them: XTbML in any encoding, with a DOCTYPE, CDATA, prefixes and references, as a tree of elements.
+"""Reads tables as others write them into a tree of elements: XTbML in any encoding, with DOCTYPE, CDATA, prefixes and references.
 
-What the program doesn't take of such a file is noted as a change where the tree doesn't have it any more. Nothing outside of
-the file is read, and an entity that a file declares is refused: it could be of any length.
+What the program does not take is left out of the tree, and noted as a change. Nothing outside the file is read. A file that
+declares an entity is refused, because an entity could expand to any length.
 """
 from __future__ import annotations
 
@@ -21,7 +21,7 @@ REFERENCE = re.compile(rb"&#?[A-Za-z0-9]+;")
 
 @dataclass
 class Document:
-    """A file's root, and what of the file isn't in it any more, in words."""
+    """A file's root element, and a sentence for each kind of thing that was left out of the tree."""
 
     root: Element
     changes: list[str] = field(default_factory=list)
@@ -32,7 +32,7 @@ def local(name: str) -> str:
 
 
 class ForeignReader:
-    """Builds the elements of a document, without prefixes; counts what it leaves out."""
+    """Builds the elements of a document without prefixes, and counts what it leaves out."""
 
     def __init__(self, data: bytes) -> None:
         self.parser = expat.ParserCreate()
@@ -133,12 +133,12 @@ def document_at(path: str) -> Document:
 # --- as text ---
 
 def plain(text: str) -> str:
-    """Text as the program passes it over: no `<` stands in it."""
+    """Returns a text escaped, so that no `<` remains in it; the program skips such text."""
     return escape(text.strip(WHITE))
 
 
 def lines_of(element: Element, depth: int = 0) -> Iterator[str]:
-    """An element and what is in it, one a line; what isn't a rate or a label is kept as it was."""
+    """Yields the lines of an element and its children, one element on a line; texts other than rates and labels are kept."""
     indent = "  " * depth
     attributes = "".join(f" {name}={quoteattr(value)}" for name, value in element.attributes.items())
     if not element.children:
@@ -152,5 +152,5 @@ def lines_of(element: Element, depth: int = 0) -> Iterator[str]:
 
 
 def bytes_with(root: Element) -> bytes:
-    """The file of a document, as the program takes it."""
+    """Returns the bytes of a document's file as the program takes it."""
     return ("<?xml version=\"1.0\" encoding=\"utf-8\"?>\n" + "\n".join(lines_of(root)) + "\n").encode("utf-8").removeprefix(MARK)

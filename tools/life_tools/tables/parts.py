@@ -1,4 +1,4 @@
-"""What is taken of a table's file, what the file calls it, and what of it is passed over, in lines (docs/howto/tables.md)."""
+"""Describes what is read from a table's file, what the file calls it, and what is skipped (docs/howto/tables.md)."""
 from __future__ import annotations
 
 from fractions import Fraction
@@ -24,28 +24,28 @@ def factor_in(table: Element) -> str:
 
 
 def names_in(root: Element) -> list[str]:
-    """What the file calls the table, its rates and the axes of the first Table, which nobody compares with the rates."""
+    """Returns the names that the file gives to the table, its rates and the axes of the first Table; nothing checks them."""
     head = root.first("ContentClassification")
     found = [head.first(name) for name in ("TableName", "ContentType")] if head else []
     axes = [part for data in root.those("Table")[:1] for one in data.those("MetaData") for part in one.those("AxisDef")]
     names = [part.text.strip() for part in found if part]
     of_axes = (part.first("AxisName") or part.first("ScaleType") for part in axes)
     names += [f"axis {name.text.strip()}" for name in of_axes if name]
-    # the document was read byte for byte, and what people read in it is UTF-8 as a rule
+    # the document was read byte for byte, but its texts are UTF-8 as a rule
     return [name.encode("iso-8859-1").decode("utf-8", "replace") for name in names if name]
 
 
 # --- what is passed over ---
 
 def further_by_age(table: Element) -> int:
-    """How many Values and Axis of a table by age are passed over."""
+    """Returns how many Values and Axis elements of a table by age are skipped."""
     values = table.those("Values")
     axes = values[0].those("Axis")
     return len(values) - 1 + len(axes) - 1 + len(axes[0].those("Axis"))
 
 
 def further_by_duration(path: list[Element]) -> int:
-    """How many Values and Axis are passed over of a table by issue age and duration."""
+    """Returns how many Values and Axis elements of a table by issue age and duration are skipped."""
     _, table, values, axis = path
     axes = issue_axes_of(path)
     beside = 0 if axes[0] is axis else len(values.those("Axis")) - 1
@@ -65,7 +65,7 @@ def elements_over(root: Element, taken: int) -> list[str]:
 
 
 def passed_over(path: list[Element], table: AnyTable) -> list[str]:
-    """What of a document isn't read, beside the path to the rates."""
+    """Returns what of a document is not read, apart from the path to the rates."""
     root, is_select = path[0], isinstance(table, SelectTable)
     taken = 2 if is_select else 1
     found = []
@@ -117,7 +117,7 @@ def by_duration(path: str, table: SelectTable, parts: list[Element], line_of: Pl
 
 
 def lines_of(path: str, table: AnyTable, root: Element, line_of: Places) -> list[str]:
-    """The lines on a file of this path, by its document, and by the line of an editor on which an element begins."""
+    """Returns the lines about the file at this path; `line_of` gives the line in an editor on which an element begins."""
     parts, _ = path_of(root)
     told = by_duration(path, table, parts, line_of) if isinstance(table, SelectTable) else by_age(path, table, parts, line_of)
     names = names_in(root)

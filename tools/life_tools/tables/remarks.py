@@ -1,4 +1,4 @@
-"""What of a table people should look at before they value by it: whose rates they are, and whether they are rates of death."""
+"""Makes remarks on a table for people who will value by it: whose rates they are, and whether they are rates of death."""
 from __future__ import annotations
 
 import re
@@ -10,16 +10,16 @@ from life_tools.tables.basis import AnyTable, Element, SelectTable, Table, path_
 CLASSES = ("male", "female", "unisex", "nonsmoker", "smoker", "composite", "preferred", "residual", "aggregate")
 AGES = {"nearest": re.compile(r"\bANB\b|nearest", re.I), "last": re.compile(r"\bALB\b|last birthday", re.I)}
 YEAR = re.compile(r"\b(1[89]|20)[0-9]{2}\b")
-# what a file may say of its rates that aren't those of death
+# words by which a file says that its rates are not rates of death
 OTHERS = ("lapse", "withdrawal", "surrender", "improvement", "projection scale", "disability", "morbidity", "termination",
           "remarriage")
 SAYING = ("TableName", "ContentType", "TableDescription", "KeyWord")
-# rates of death that fall over more of the steps than this aren't such
+# if the rates fall over more than this part of the steps, they are not taken for rates of death
 MOST_FALLING = Fraction(1, 3)
 
 
 def texts_in(root: Element) -> dict[str, str]:
-    """What the file says of itself, by the element that says it."""
+    """Returns what the file says about itself, by the name of the element that says it."""
     heads = root.those("ContentClassification") + [data for table in root.those("Table")[:1] for data in table.those("MetaData")]
     found: dict[str, str] = {}
     for head in heads:
@@ -31,13 +31,13 @@ def texts_in(root: Element) -> dict[str, str]:
 
 
 def classes_in(words: str) -> list[str]:
-    """The classes of lives that are named, `female` and `nonsmoker` not also as `male` and `smoker`."""
+    """Returns the classes of lives that are named; `female` and `nonsmoker` do not also count as `male` and `smoker`."""
     said = re.sub(r"non-?\s?smok", "nonsmok", words.lower())
     return [name for name in CLASSES if re.search(rf"\b{name}s?\b", said)]
 
 
 def whose(root: Element) -> str:
-    """Class, age basis and year, as the file says them."""
+    """Returns a line with the class of lives, the age basis and the year, as the file states them."""
     told = texts_in(root)
     words = " ".join(told.values())
     found = classes_in(told.get("TableName", "")) or classes_in(words)
@@ -49,14 +49,14 @@ def whose(root: Element) -> str:
 
 
 def axis_names(root: Element) -> list[str]:
-    """The names of the first table's axes."""
+    """Returns the names of the first table's axes."""
     axes = [part for table in root.those("Table")[:1] for data in table.those("MetaData") for part in data.those("AxisDef")]
     names = [(part.first("AxisName") or part.first("ScaleType")) for part in axes]
     return [name.text.strip() for name in names if name]
 
 
 def of_axis(root: Element, table: AnyTable) -> list[str]:
-    """Whether what is taken as an age is named as one."""
+    """Returns remarks if labels that are read as ages are not named as ages."""
     path, _ = path_of(root)
     if isinstance(table, SelectTable):
         return []
@@ -71,7 +71,7 @@ def of_axis(root: Element, table: AnyTable) -> list[str]:
 
 
 def is_falling(rates: Sequence[Fraction]) -> bool:
-    """Whether rates of so many ages fall as no rates of death do."""
+    """Returns whether the rates fall in a way in which rates of death do not."""
     steps = list(zip(rates, rates[1:]))
     falling = sum(later < earlier for earlier, later in steps)
     return len(steps) > 2 and (rates[-1] < rates[0] or falling > len(steps) * MOST_FALLING)
@@ -100,5 +100,5 @@ def kind_of(table: AnyTable) -> str:
 
 
 def remarks_on(root: Element, table: AnyTable) -> list[str]:
-    """What people should look at; nothing where a file says what it should."""
+    """Returns what people should look at; the list is empty if nothing is unusual."""
     return [*of_axis(root, table), *of_rates(root, table)]

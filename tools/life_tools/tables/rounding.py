@@ -1,4 +1,4 @@
-"""The rates of a table rounded to nine places, in the file as it is: nothing else of it is changed."""
+"""Rounds the rates of a table to nine places in the file as it is, and changes nothing else in it."""
 from __future__ import annotations
 
 import re
@@ -9,12 +9,12 @@ from life_tools.tables.conversion import NUMBER, Rounding, rate_text, rounded_un
 from life_tools.tables.basis import (FINEST, WHITE, Element, NotXml, is_select, issue_axes_of, path_of, root_of,
                                      rows_by_duration, ultimate_rows_of)
 
-# the tag with which a row begins, and its text
+# the opening tag of a row, and the row's text
 ROW = re.compile(rb"<Y(?:[^>\"']|\"[^\"]*\"|'[^']*')*>([^<]*)<")
 
 
 def rows_of(root: Element) -> list[tuple[str, Element]]:
-    """The rows of a table, each with what it is the rate of."""
+    """Returns the rows of a table, each with a text that says which rate it is."""
     path, is_whole = path_of(root)
     demand(is_whole, "there is no XTbML, Table, Values, Axis with rates Y in it")
     if not is_select(path):
@@ -25,7 +25,7 @@ def rows_of(root: Element) -> list[tuple[str, Element]]:
 
 
 def rounded_file(data: bytes) -> tuple[bytes, Rounding]:
-    """The bytes of a file, with each rate that has more than nine places rounded to the nearest; and what that changed."""
+    """Returns the bytes of a file in which rates with more than nine places are rounded to the nearest, and what was changed."""
     rounding, parts, done = Rounding(), [], 0
     try:
         root = root_of(data)
