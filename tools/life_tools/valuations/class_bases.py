@@ -1,7 +1,7 @@
-"""Which basis values which policy: one for all, or that of its class; and a valuation of which each row is of its class.
+"""Finds which basis values which policy, one for all or one for each class, and values each policy by its own basis.
 
-Of classes there are two files. One says which policies a class has, by numbers and ranges of numbers; the other says which
-basis file of the folder values a class:
+Classes need two files. One says which policies a class has, by numbers and ranges of numbers; the other says which basis file
+of the folder values a class:
 
   7001,smoker                  a policy, and its class
   8000-8999,smoker             all policies from one number to another, and their class
@@ -24,7 +24,7 @@ MOST_CLASSES_BYTES = 64 * 2**20
 
 
 class Asks(Protocol):
-    """What can be asked for a valuation: a copy of a book at a position."""
+    """The copy of a book at a position that can be asked for a valuation."""
 
     folder: str
     position: int
@@ -33,7 +33,7 @@ class Asks(Protocol):
 
 
 class Range(NamedTuple):
-    """The policies from one number to another, their class, and the line that says so."""
+    """A range of policy numbers, from `first` to `last`, their class, and the line of the file that says so."""
 
     first: int
     last: int
@@ -43,20 +43,20 @@ class Range(NamedTuple):
 
 @dataclass(frozen=True)
 class Bases:
-    """The basis files, and of each range of numbers its own; without ranges the one file values all."""
+    """The basis files, and the ranges of numbers with their classes. Without ranges the only basis file values all policies."""
 
     names: tuple[str, ...]
     ranges: tuple[Range, ...] = ()
     basis_of_class: tuple[tuple[str, str], ...] = ()
 
     def picked(self, numbers: Sequence[int]) -> list[str]:
-        """The basis file of each policy; one that is in no class is an error."""
+        """Returns the basis file of each policy, and raises Wrong for a policy that has no class."""
         picker = Picker(self)
         return [picker.basis_of(number) for number in numbers]
 
 
 class Picker:
-    """Picks the basis file of one policy after the other."""
+    """Finds the basis file of one policy after another."""
 
     def __init__(self, bases: Bases) -> None:
         self.bases = bases
@@ -94,7 +94,7 @@ def range_in(row: Row) -> Range:
 
 
 def ranges_at(path: str) -> list[Range]:
-    """The ranges of a file of classes, sorted; no number lies in two."""
+    """Returns the ranges of a file of classes, sorted; no number may be in two of them."""
     found = []
     for row in small_rows(path):
         try:
@@ -110,7 +110,7 @@ def ranges_at(path: str) -> list[Range]:
 
 
 def bases_at(path: str) -> dict[str, str]:
-    """Of each class its basis file."""
+    """Returns the basis file of each class."""
     found: dict[str, str] = {}
     for row in small_rows(path):
         place = f"{path}, line {row.line}"
@@ -122,7 +122,7 @@ def bases_at(path: str) -> dict[str, str]:
 
 
 def bases_in(basis: str | None, classes: str | None, bases: str | None) -> Bases:
-    """What was asked for: a basis, or classes with theirs."""
+    """Returns what was asked for: one basis, or classes with their bases."""
     demand((classes is None) == (bases is None), "--classes and --bases go together")
     if classes is None or bases is None:
         return one_basis(basis or "basis.csv")
@@ -135,7 +135,7 @@ def bases_in(basis: str | None, classes: str | None, bases: str | None) -> Bases
 
 
 def basis_arguments(parser: argparse.ArgumentParser) -> None:
-    """What values the policies."""
+    """Adds the arguments that say by which basis policies are valued."""
     parser.add_argument("--basis", metavar="NAME", help="the basis file in the folder (basis.csv)")
     class_arguments(parser)
 
@@ -152,14 +152,18 @@ def measure_words(measure: str) -> list[str]:
 
 
 def valued(copy: Asks, on: str, bases: Bases, measure: str) -> PrintedValuation:
-    """The program's valuation of a copy; of several bases one for each, of which each policy's row is that of its own."""
+    """Returns the program's valuation of a copy.
+
+    With more than one basis the program values all policies by each of them, and each policy's row is taken from the valuation by
+    its own basis.
+    """
     words = ["--at", str(copy.position), *WORKERS, *measure_words(measure)]
     made = {name: valuation_in(copy.asks("value", on, *words, "--basis", name)) for name in bases.names}
     return of_classes(made, bases)
 
 
 def of_classes(made: dict[str, PrintedValuation], bases: Bases) -> PrintedValuation:
-    """The rows of each policy's own basis, and their sums."""
+    """Returns a valuation with each policy's row by its own basis, and their sums."""
     first = made[bases.names[0]]
     picks = bases.picked([row.number for row in first.rows])
     if len(made) == 1:
@@ -174,13 +178,13 @@ def of_classes(made: dict[str, PrintedValuation], bases: Bases) -> PrintedValuat
 
 
 class BasisRows:
-    """The rows of each basis file, and those that value a policy."""
+    """The rows of each basis file, from which the rows for a policy are found."""
 
     def __init__(self, folder: str, bases: Bases) -> None:
         self.picker = Picker(bases)
         self.rows = {name: read_basis(os.path.join(folder, name)) for name in bases.names}
 
     def of(self, number: int) -> tuple[str, Sequence[BasisRow]]:
-        """Of a policy the name of its basis file, and the rows of it."""
+        """Returns the name of a policy's basis file, and the rows of that file."""
         name = self.picker.basis_of(number)
         return name, self.rows[name]

@@ -1,4 +1,4 @@
-"""What `class_bases` says, in bulk: which basis values each policy, and the valuation of which each row is by its own."""
+"""Does in bulk what `class_bases` does: finds which basis values each policy, and values each policy by its own basis."""
 from __future__ import annotations
 
 import datetime
@@ -17,7 +17,7 @@ from life_tools.tables.basis import BasisRow, read_basis
 
 
 class Streams(Protocol):
-    """What can be asked for a valuation: a copy of a book at a position."""
+    """The copy of a book at a position that can be asked for a valuation in parts."""
 
     folder: str
     position: int
@@ -26,7 +26,7 @@ class Streams(Protocol):
 
 
 def picked(bases: Bases, numbers: Array) -> Array:
-    """The place of each policy's basis file among the names; one that is in no class is an error."""
+    """Returns the index of each policy's basis file among the names, and raises Wrong for a policy that has no class."""
     if not bases.ranges:
         return np.zeros(len(numbers), np.int64)
     of_class = dict(bases.basis_of_class)
@@ -41,7 +41,11 @@ def picked(bases: Bases, numbers: Array) -> Array:
 
 
 def valued_columns(copy: Streams, on: str, bases: Bases, measure: str) -> ColumnValuation:
-    """The program's valuation of a copy; of several bases one for each, of which each policy's row is that of its own."""
+    """Returns the program's valuation of a copy.
+
+    With more than one basis the program values all policies by each of them, and each policy's row is taken from the valuation by
+    its own basis.
+    """
     words = ["value", on, "--at", str(copy.position), *measure_words(measure), *WORKERS]
     made = [valuation_of(copy.streams(*words, "--basis", name)) for name in bases.names]
     first, place = made[0], picked(bases, made[0].rows.number)
@@ -58,7 +62,7 @@ def valued_columns(copy: Streams, on: str, bases: Bases, measure: str) -> Column
 
 
 class PlacedRow(NamedTuple):
-    """A row of a basis file, with the file's name, and the day of the row after it, where there is one."""
+    """A row of a basis file, the file's name, and the day of the row after it, or None if it is the last."""
 
     file: str
     row: BasisRow
@@ -66,7 +70,7 @@ class PlacedRow(NamedTuple):
 
 
 def placed_rows(folder: str, bases: Bases, numbers: Array, issued: Array) -> tuple[Array, list[PlacedRow]]:
-    """All rows, and of each policy the place of the one that values it, by its day of issue: from 1, or 0 where none does."""
+    """Returns all basis rows, and for each policy the number of the row for its day of issue, from 1, or 0 if no row applies."""
     of, place, found = picked(bases, numbers), np.zeros(len(numbers), np.int64), list[PlacedRow]()
     for at, name in enumerate(bases.names):
         rows = read_basis(os.path.join(folder, name))
@@ -79,16 +83,16 @@ def placed_rows(folder: str, bases: Bases, numbers: Array, issued: Array) -> tup
 
 
 class BasisColumn(NamedTuple):
-    """Of each policy the place of its basis row among the names, of which the first says that there is none."""
+    """For each policy the number of its basis row, and the rows' names by these numbers; number 0 means that no row applies."""
 
     place: Array
     names: list[str]
 
 
 def basis_rows(folder: str, bases: Bases, numbers: Array, issued: Array) -> BasisColumn:
-    """The rows that value policies, by their days of issue."""
+    """Returns the basis rows that value policies, found by the policies' days of issue."""
     place, rows = placed_rows(folder, bases, numbers, issued)
-    # of several bases each row is named with its own
+    # if there is more than one basis, each row is named together with its file
     files = [f"{row.file} " * (len(bases.names) > 1) for row in rows]
     return BasisColumn(place, ["none", *(f"{file}{it.row.day} {it.row.name} {it.row.points} bp"
                                          for file, it in zip(files, rows))])

@@ -1,4 +1,4 @@
-"""One row of a whole valuation, its policy as the program makes it, and both beside what is worked out."""
+"""Compares one row of a valuation, and the policy as the program prints it, with an independent computation."""
 from __future__ import annotations
 
 import datetime
@@ -23,15 +23,18 @@ def row_in(valuation: ColumnValuation, number: int) -> ValuedRow:
 
 
 def asked(copy: BookAt, valued: Iterable[bytes], number: int) -> tuple[ValuedRow, Policy]:
-    """The policy's row of the valuation that comes in parts, and what the program makes of its commands and the upgrade."""
-    # the upgrade has no policy's number
+    """Returns the policy's row of a valuation that comes in parts, and the policy as the program prints it.
+
+    For the policy, the program runs on a copy that has only the policy's commands and the upgrade.
+    """
+    # 0 is the number of the upgrade, which has no policy
     places = places_at(os.path.join(copy.folder, JOURNAL), copy.position, {0, number})
     row = row_in(valuation_of(valued), number)
     return row, account_in(copy.alone(places).asks("state", str(number)))
 
 
 def compared(worked: Worked, row: ValuedRow) -> tuple[int, str]:
-    """The status, and a line that sets the printed row beside what was worked out."""
+    """Returns the status, and a line that compares the printed row with the computation."""
     if worked.word or row.word:
         same = worked.word == row.word
         return (0 if same else 1), f"printed: {row.word or 'bounds'}: {'the same' if same else 'not the same'}"
@@ -48,7 +51,7 @@ def compared(worked: Worked, row: ValuedRow) -> tuple[int, str]:
 
 def explained(copy: BookAt, valued: Iterable[bytes], number: int, on: datetime.date, basis: str, measure: str,
               whole_fractions: bool) -> tuple[int, list[str]]:
-    """The status, and the lines."""
+    """Returns the status, and the lines that explain the row."""
     row, policy = asked(copy, valued, number)
     worked = Worked(policy, copy.position, on, read_basis(os.path.join(copy.folder, basis)), measure, whole_fractions)
     status, line = compared(worked, row)

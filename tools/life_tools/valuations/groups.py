@@ -1,4 +1,4 @@
-"""The rows of a valuation joined with their policies, and added up exactly by what policies have in common."""
+"""Joins the rows of a valuation with their policies, and adds them up exactly by what policies have in common."""
 from __future__ import annotations
 
 from dataclasses import dataclass, field
@@ -12,12 +12,12 @@ from life_tools.journal.policy_columns import CODE_OF_STATUS
 from life_tools.valuations.printed_columns import ColumnState, ColumnValuation, P, Rows, StatePolicies
 
 AGES_IN_A_BAND = 10
-# as many bits of cents, of 4,000,000 policies, as a float adds up without rounding
+# so many low bits of the cents of 4,000,000 policies can be added up in floats without rounding
 LOW_BITS = 26
 
 
 class Joined(NamedTuple):
-    """The rows with their policies, and the place of each one's basis row among the names, the first of which says none."""
+    """The rows with their policies, and for each the number of its basis row among the names; number 0 means none."""
 
     rows: Rows
     policies: StatePolicies
@@ -30,7 +30,7 @@ def age_band(age: int) -> str:
     return f"{first:03}-{first + AGES_IN_A_BAND - 1:03}"
 
 
-# what a policy may be grouped by, as a code of each and the names of all codes: ages are those at issue
+# what policies may be grouped by: for each key, the code of each policy and the names of all codes; ages are those at issue
 KEYS: dict[str, Callable[[Joined], tuple[Array, Sequence[str]]]] = {
     "plan": lambda it: (it.policies.plan, ["", *PLANS.values()]),
     "status": lambda it: (it.rows.status, ["", *STATUSES]),
@@ -41,7 +41,7 @@ KEYS: dict[str, Callable[[Joined], tuple[Array, Sequence[str]]]] = {
 
 
 def demand_same(valuation: ColumnValuation, state: ColumnState[P]) -> None:
-    """Demands that each row is that of the policy that the state has in its place."""
+    """Raises Wrong unless each row is that of the policy at the same place in the state."""
     rows, policies = valuation.rows, state.policies
     demand(valuation.position == state.count, f"the valuation is of position {valuation.position}, the state of {state.count}")
     demand(len(rows) == len(policies), "the valuation and the state have another number of policies")
@@ -54,14 +54,15 @@ def demand_same(valuation: ColumnValuation, state: ColumnState[P]) -> None:
 
 
 def joined(valuation: ColumnValuation, state: ColumnState[StatePolicies], basis: BasisColumn) -> Joined:
-    """Each row with its policy, which the state has in the same place."""
+    """Returns each row with its policy, which is at the same place in the state."""
     demand_same(valuation, state)
     return Joined(valuation.rows, state.policies, *basis)
 
 
 @dataclass
 class Sums:
-    """Of some policies: how many, those in force or paid up and their amounts insured, the bounds, the rows with a word."""
+    """The sums for some policies: their number, how many are in force or paid up and for what amounts, bounds, rows with a
+    word."""
 
     policies: int = 0
     insured: int = 0
@@ -78,7 +79,7 @@ Groups = dict[tuple[str, ...], Sums]
 
 
 def added(groups: Array, count: int, cents: Cents) -> list[int]:
-    """The sum of each group's cents, added up in two parts by floats that hold both exactly."""
+    """Returns the sum of each group's cents; floats add them up in two parts, and both parts stay exact."""
     low, high = cents & ((1 << LOW_BITS) - 1), cents >> LOW_BITS
     above, below = (np.bincount(groups, part, count).astype(np.int64) for part in (high, low))
     found: list[int] = ((above << LOW_BITS) + below).tolist()
@@ -86,7 +87,7 @@ def added(groups: Array, count: int, cents: Cents) -> list[int]:
 
 
 def sums_by(it: Joined, groups: Array, count: int) -> list[Sums]:
-    """The sums of groups, which each policy's number states."""
+    """Returns the sums of the groups; `groups` has the number of each policy's group."""
     insured = (it.rows.status == CODE_OF_STATUS["inforce"]) | (it.rows.status == CODE_OF_STATUS["paidup"])
     amounts = added(groups, count, np.where(insured, it.policies.amount, 0))
     counts: list[int] = np.bincount(groups[insured], minlength=count).tolist()
@@ -98,7 +99,7 @@ def sums_by(it: Joined, groups: Array, count: int) -> list[Sums]:
 
 
 def grouped(it: Joined, keys: Sequence[str]) -> Groups:
-    """The sums of each group that occurs, in the order of its names."""
+    """Returns the sums of each group that occurs, in the order of the groups' names."""
     code: Array = np.zeros(len(it.rows), np.int64)
     names: list[tuple[str, ...]] = [()]
     for key in keys:
@@ -113,7 +114,7 @@ def whole(it: Joined) -> Sums:
 
 
 def demand_whole(groups: Groups, keys: Sequence[str], valuation: ColumnValuation) -> None:
-    """Demands that the groups add up to what the program printed: its sums, its policies, its rows with a word."""
+    """Raises Wrong unless the groups add up to what the program printed: its sums, its policies, its rows with a word."""
     by = ",".join(keys)
     sums = [0] * len(valuation.total)
     for each in groups.values():

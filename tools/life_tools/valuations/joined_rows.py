@@ -1,4 +1,4 @@
-"""A valuation and the rows of it with their policies, as the program prints both of one copy of a book."""
+"""Reads a valuation and its rows joined with their policies, both printed by the program from the same copy of a book."""
 from __future__ import annotations
 
 from life_tools.journal.at_position import book_at
@@ -10,7 +10,7 @@ from life_tools.valuations.printed_columns import ColumnValuation, state_of
 
 def read_both(folder: str, position: int | None, life: str | None, on: str, bases: Bases, measure: str,
               made: ColumnValuation | None = None) -> tuple[ColumnValuation, Joined]:
-    """The valuation, and its rows with their policies, of one copy; unless it was made already, it is made."""
+    """Returns the valuation and its rows with their policies from one copy; `made` is used as the valuation if it is given."""
     with book_at(folder, position, bases.names, life) as copy:
         valuation = made or valued_columns(copy, on, bases, measure)
         state = state_of(copy.streams("state"))

@@ -1,4 +1,4 @@
-"""What `life value` and `life state` printed of one position, read whole: rows, policies, totals, balances."""
+"""Reads what `life value` and `life state` printed for one position, as a whole: rows, policies, totals, balances."""
 from __future__ import annotations
 
 import datetime
@@ -9,13 +9,15 @@ from life_tools.common.formats import (MOST_COMMANDS, MOST_NUMBER, Wrong, day_in
                                        printed_cents)
 from life_tools.rules.policies import Policy
 
-# an amount has fewer
+# the text of an amount is shorter
 MOST_LETTERS = 22
 
 
 class ValuedRow(NamedTuple):
-    """A row: the policy's number, status and year; its bounds in cents (two, or four by `deficiency`), or a word; and by
-    `deficiency` what its premium is."""
+    """A row: the policy's number, status and year, and its bounds in cents or a word.
+
+    There are two bounds, or four by `deficiency`, which also says whether the premium is enough.
+    """
 
     number: int
     status: str
@@ -26,7 +28,7 @@ class ValuedRow(NamedTuple):
 
 
 class PrintedValuation(NamedTuple):
-    """A valuation: its day, position, measure, rows in order of issue, the printed sums, and the rows with a word."""
+    """A valuation: its day, position, measure, rows in order of issue, the printed sums, and the number of rows with a word."""
 
     on: datetime.date
     position: int
@@ -37,7 +39,7 @@ class PrintedValuation(NamedTuple):
 
 
 def cents(text: str) -> int:
-    """An amount that the program printed; `printed_cents` finds what is wrong with one that isn't."""
+    """Returns the cents of a printed amount; `printed_cents` reports what is wrong with a text that is none."""
     if text[-3:-2] == "." and text[:-3].isdecimal() and text[-2:].isdecimal() and len(text) < MOST_LETTERS:
         return int(text[:-3] + text[-2:])
     return printed_cents(text)
@@ -56,7 +58,7 @@ def row_of(line: str, bounds: int) -> ValuedRow:
 
 
 def valuation_in(text: str) -> PrintedValuation:
-    """The one valuation that a run of `value` printed, of which the rows add up to the total."""
+    """Returns the only valuation of the text that a run of `value` printed; its rows must add up to its total."""
     lines = text.splitlines()
     head = lines[0].split(",") if lines else []
     measure = measure_of(head)
@@ -87,7 +89,10 @@ class PrintedState:
 
 
 def policy_of(line: str) -> Policy:
-    """The policy of a line of `state`, which doesn't tell the day of the last posting: the day of issue stands for it."""
+    """Returns the policy of a line of `state`.
+
+    The line does not have the day of the last posting, so the day of issue takes its place.
+    """
     fields = line.split(",")
     demand(len(fields) == 11 and fields[0] == "policy", f"{line} is no policy of a state")
     _, number, status, plan, age, years, amount, premium, issued, paid, outstanding = fields
@@ -99,7 +104,7 @@ def policy_of(line: str) -> Policy:
 
 
 def state_in(text: str) -> PrintedState:
-    """The book that a run of `state` printed."""
+    """Returns the book that a run of `state` printed."""
     policies: list[Policy] = []
     balances: dict[str, int] = {}
     count = -1
@@ -119,7 +124,7 @@ def state_in(text: str) -> PrintedState:
 
 
 def account_in(text: str) -> Policy:
-    """The policy that a run of `state ID` printed, with the day of its last posting."""
+    """Returns the policy that a run of `state ID` printed, with the day of its last posting."""
     lines = text.splitlines()
     entries = [line.split(",") for line in lines if line.startswith("entry,")]
     policies = [line for line in lines if line.startswith("policy,")]

@@ -1,7 +1,7 @@
-"""What `life value` and `life state` print, in bulk: a text of millions of lines, block by block, as columns of numpy.
+"""Reads what `life value` and `life state` print in bulk: millions of lines, block by block, into numpy columns.
 
-`printed_books` reads the same texts line by line, into objects, and a check compares both. A block ends at the end of a line.
-Each field must be what the program prints there, and the sums of the rows the printed total.
+`printed_books` reads the same texts line by line into objects, and a test compares the two. A block ends at the end of a line.
+Each field must have the form that the program prints, and the sums of the rows must equal the printed total.
 """
 from __future__ import annotations
 
@@ -25,16 +25,16 @@ from life_tools.rules.policies import ACCOUNTS
 from life_tools.reserves.worked_rows import WORDS
 
 LINE_END, COMMA, POINT, MINUS, ZERO = b"\n,.-0"
-# so many bytes at least that a block has, where the text has them; so many threads read blocks, in which numpy lets them work
-# side by side; and so many blocks more may wait for them
+# BLOCK is the least number of bytes in a block, unless the text is shorter. THREADS threads read blocks, since numpy lets them
+# run in parallel, and WAITING more blocks may wait for a thread.
 BLOCK, THREADS, WAITING = 1 << 20, min(os.cpu_count() or 1, 3), 8
-# so many bytes of a text are looked at as one number, of which the first byte is the least part
+# number of bytes of a text that are read as one little-endian number, a word
 WORD = 8
-# the first and the last so many bytes of it, and each one's highest bit and 1
+# masks for the first n and for the last n bytes of a word; HIGHEST has the highest bit of each byte, EACH the lowest
 FIRSTS = np.array([2**(8 * many) - 1 for many in range(WORD)] + [2**64 - 1], np.uint64)
 LASTS = ~FIRSTS[::-1]
 HIGHEST, EACH = np.uint64(0x8080808080808080), np.uint64(0x0101010101010101)
-# how neighbours are added up, then pairs, then fours: by what a number is multiplied and moved, and what of it is kept
+# steps that add up neighbouring digits, then pairs, then fours: the factor, the shift, and the mask of what is kept
 ADDED = [(np.uint64(ten << many | 1), np.uint64(many), np.uint64(kept)) for many, ten, kept in (
     (8, 10, 0x00ff00ff00ff00ff), (16, 100, 0x0000ffff0000ffff), (32, 10000, 0x00000000ffffffff))]
 NO_WORDS = ("", *WORDS)
@@ -42,7 +42,7 @@ PREMIUMS = ("", "short", "enough", "close")
 
 
 def blocks_of(parts: Iterable[bytes]) -> Iterator[bytes]:
-    """A text that comes in parts, in blocks of whole lines."""
+    """Yields a text that comes in parts as blocks of whole lines."""
     held: list[bytes] = []
     size = 0
     for part in parts:
@@ -57,7 +57,7 @@ def blocks_of(parts: Iterable[bytes]) -> Iterator[bytes]:
 
 
 class Field(NamedTuple):
-    """A field of some lines: where it begins and where it ends in each, its lengths, and the least and the most of these."""
+    """A field of some lines: where it begins and ends in each, its lengths, and the least and the greatest length."""
 
     begins: Array
     ends: Array
@@ -66,7 +66,7 @@ class Field(NamedTuple):
     most: int
 
     def mask(self, masks: Array, less: int = 0) -> Array:
-        """The masks of these lengths, or of a whole word, or of so many bytes less."""
+        """Returns the masks for the field's lengths, at most a whole word, each for `less` bytes fewer."""
         is_one = self.least == self.most or self.least >= WORD
         length = np.minimum(self.length[:1] if is_one else self.length, WORD)
         mask: Array = masks[length - less]
@@ -80,9 +80,9 @@ def between(begins: Array, ends: Array) -> Field:
 
 @dataclass(frozen=True)
 class Fields:
-    """Lines of a block that have so many fields: their places among its lines, where each begins, and where its fields end.
+    """Lines of a block with the same number of fields: their places in the block, where each begins, and where its fields end.
 
-    The text has a word of nothing on each side.
+    The text has one word of zero bytes before it and one after it.
     """
 
     text: Array
@@ -95,14 +95,14 @@ class Fields:
 
     @property
     def words(self) -> Array:
-        """The word from each place on."""
+        """Returns the words of the text, one beginning at each byte."""
         return np.ndarray(len(self.text) - WORD + 1, "<u8", self.text, strides=(1,))
 
     def field(self, field: int) -> Field:
         return between(self.ends[:, field - 1] + 1 if field else self.starts, self.ends[:, field])
 
     def wrong(self, right: Array) -> None:
-        """Demands something of each line, and states the first of which it isn't so."""
+        """Raises Wrong with the first line for which `right` is false, if there is one."""
         if not right.all():
             at = int(right.argmin())
             line = self.text[self.starts[at]:self.ends[at, -1]].tobytes().decode("ascii", "replace")
@@ -113,9 +113,9 @@ class Fields:
             self.wrong((field.length >= least) & (field.length <= most))
 
     def digits(self, words: Array, mask: Array) -> Array:
-        """The numbers that digits at the end of words spell."""
+        """Returns the numbers of the digits at the end of words."""
         digits: Array = (words ^ EACH * np.uint64(ZERO)) & mask
-        # a byte above 9 has its highest bit then, if it hadn't
+        # a byte above 9 now has its highest bit set, if it had not before
         high = digits + EACH * np.uint64(0x80 - 10) | digits
         if np.bitwise_or.reduce(high) & HIGHEST:
             self.wrong(high & HIGHEST == 0)
@@ -126,7 +126,7 @@ class Fields:
         return digits.view(np.int64)
 
     def number(self, field: Field) -> Array:
-        """The numbers that digits spell, at most sixteen."""
+        """Returns the numbers of fields with at most sixteen digits."""
         self.demand_length(field, 1, 2 * WORD)
         number = self.digits(self.words[field.ends - WORD], field.mask(LASTS))
         if field.most > WORD:
@@ -134,7 +134,7 @@ class Fields:
         return number
 
     def higher(self, field: Field) -> Array:
-        """The numbers that the digits before the last eight spell."""
+        """Returns the numbers of the digits before the last eight."""
         return self.digits(self.words[np.maximum(field.ends - 2 * WORD, 0)], LASTS[np.clip(field.length - WORD, 0, WORD)])
 
     def whole(self, field: int, most: int) -> Array:
@@ -144,7 +144,7 @@ class Fields:
         return value
 
     def cents(self, field: int) -> Cents:
-        """Amounts of digits without a leading zero, a point and two digits, perhaps with a sign."""
+        """Returns amounts in cents; a field has digits without a leading zero, a point and two digits, and may have a sign."""
         of = self.field(field)
         below = self.text[of.begins] == MINUS
         of = between(of.begins + below, of.ends) if below.any() else of
@@ -152,7 +152,7 @@ class Fields:
         self.wrong((self.text[of.begins] != ZERO) | (of.length == 4))
         last = self.words[of.ends - WORD]
         self.wrong(last >> np.uint64(40) & np.uint64(0xff) == POINT)
-        # what stands before the point moves into its place
+        # the digits before the point move into its place
         joined = (last & FIRSTS[5]) << np.uint64(8) | last & LASTS[2]
         cents = self.digits(joined, of.mask(LASTS, 1))
         if of.most > WORD:
@@ -160,7 +160,7 @@ class Fields:
         return np.where(below, -cents, cents) if below.any() else cents
 
     def days(self, field: int) -> Array:
-        """Days YYYY-MM-DD as numbers from 1970-01-01."""
+        """Returns days YYYY-MM-DD as numbers from 1970-01-01."""
         of = self.field(field)
         self.demand_length(of, 10, 10)
         self.wrong((self.text[of.begins + 4] == MINUS) & (self.text[of.begins + 7] == MINUS))
@@ -171,7 +171,7 @@ class Fields:
         return days
 
     def codes(self, field: int, words: Sequence[str]) -> Array:
-        """The place of each field's word among these, which have at most sixteen letters."""
+        """Returns the index of each field's word among these words, which have at most sixteen letters."""
         of, code = self.field(field), np.full(len(self), len(words), np.uint8)
         first, left = self.words[of.begins] & of.mask(FIRSTS), len(self)
         for place, word in enumerate(words):
@@ -188,7 +188,7 @@ class Fields:
 
 
 def spelled_days() -> Array:
-    """The days of the calendar as numbers YYYYMMDD."""
+    """Returns the days of the calendar as numbers YYYYMMDD."""
     days = np.arange(FIRST, LAST + 1, dtype="datetime64[D]")
     months, years = days.astype("datetime64[M]"), days.astype("datetime64[Y]")
     year = years.astype(np.int64) + EPOCH.year
@@ -201,7 +201,7 @@ SPELLED = spelled_days()
 
 
 def fields_in(block: bytes) -> dict[int, Fields]:
-    """The lines of a block by how many fields they have."""
+    """Returns the lines of a block, by the number of their fields."""
     text = np.frombuffer(b"".join((bytes(WORD), block, bytes(WORD))), np.uint8)
     is_end = text == LINE_END
     separators, many = np.flatnonzero(is_end | (text == COMMA)), np.count_nonzero(is_end)
@@ -222,7 +222,7 @@ Read = TypeVar("Read")
 
 
 def read_in_threads(read: Callable[[bytes], Read], blocks: Iterable[bytes]) -> Iterator[Read]:
-    """What is read of each block, in their order."""
+    """Yields what `read` makes of each block, in the order of the blocks; threads read them."""
     with ThreadPoolExecutor(THREADS) as pool:
         waiting: deque[Future[Read]] = deque()
         for block in blocks:
@@ -237,15 +237,15 @@ def read_in_threads(read: Callable[[bytes], Read], blocks: Iterable[bytes]) -> I
 
 @dataclass(frozen=True)
 class Rows:
-    """Rows of a valuation in order of issue: numbers, statuses and words by codes (no word is 0), years, bounds in cents."""
+    """Rows of a valuation in order of issue: numbers, statuses and words as codes (0 is no word), years, bounds in cents."""
 
     number: Array
     status: Array
     year: Array
     word: Array
-    # a column for each bound, 0 where there is a word
+    # a column for each bound; 0 if the row has a word
     bounds: Cents
-    # by `deficiency` what the premium is, by its code
+    # by `deficiency`, the code of the word that says whether the premium is enough
     premium: Array
 
     def __len__(self) -> int:
@@ -257,7 +257,7 @@ class Rows:
 
 
 class ColumnValuation(NamedTuple):
-    """A valuation: its day, position, measure, rows, the printed sums, and the rows with a word."""
+    """A valuation: its day, position, measure, rows, the printed sums, and the number of rows with a word."""
 
     on: datetime.date
     position: int
@@ -276,7 +276,7 @@ def bounds_by(measure: str) -> int:
 
 
 def rows_in(block: bytes, bounds: int) -> Rows:
-    """The rows of a block, which has nothing else."""
+    """Returns the rows of a block that has only rows."""
     found = fields_in(block)
     count = sum(map(len, found.values()))
     made = Rows(np.zeros(count, np.uint32), np.zeros(count, np.uint8), np.zeros(count, np.uint8), np.zeros(count, np.uint8),
@@ -301,7 +301,7 @@ def rows_in(block: bytes, bounds: int) -> Rows:
 
 
 def head_in(line: bytes) -> tuple[datetime.date, int, str, int]:
-    """The day, the position and the measure of a valuation's first line, and how many rows it has."""
+    """Returns the day, position and measure on a valuation's first line, and the number of rows that it states."""
     head = line.decode("ascii", "replace").split(",")
     measure = measure_of(head)
     position, count = (number_of(text, 0, MOST_NUMBER) for text in head[3:5]) if measure else (None, None)
@@ -311,7 +311,7 @@ def head_in(line: bytes) -> tuple[datetime.date, int, str, int]:
 
 
 def valuation_of(parts: Iterable[bytes]) -> ColumnValuation:
-    """The one valuation of a text, whose rows add up to its total."""
+    """Returns the only valuation of a text; its rows must add up to its total."""
     blocks = blocks_of(parts)
     line, _, begun = next(blocks, b"").partition(b"\n")
     head, last = head_in(line), [b""]
@@ -346,7 +346,7 @@ def whole_valuation(on: datetime.date, position: int, measure: str, count: int, 
 
 
 def sums_of(columns: Cents) -> list[int]:
-    """The sums of columns of cents, which 64 bits hold: 4,000,000 bounds of at most 10^10."""
+    """Returns the sums of columns of cents; they fit in 64 bits, because there are at most 4,000,000 bounds of at most 10^10."""
     sums: list[int] = columns.sum(axis=0, dtype=np.int64).tolist()
     return sums
 
@@ -355,7 +355,8 @@ def sums_of(columns: Cents) -> list[int]:
 
 @dataclass(frozen=True)
 class StatePolicies:
-    """What groups are made by of the policies that `state` prints: plans and statuses by codes, days from 1970-01-01, cents."""
+    """The fields of the policies printed by `state` that groups need: plans and statuses as codes, days from 1970-01-01,
+    cents."""
 
     number: Array
     status: Array
@@ -370,7 +371,7 @@ class StatePolicies:
 
 @dataclass(frozen=True)
 class WholePolicies(StatePolicies):
-    """All that `state` prints of policies."""
+    """All fields of the policies that `state` prints."""
 
     years: Array
     premium: Cents
@@ -379,7 +380,7 @@ class WholePolicies(StatePolicies):
 
 
 P = TypeVar("P", bound=StatePolicies)
-# of each column the field of a policy's line, and how it is read
+# for each column, how it is read from a policy's line
 READ: dict[str, Callable[[Fields], Array]] = {
     "number": lambda each: each.whole(1, MOST_NUMBER).astype(np.uint32), "status": lambda each: each.codes(2, STATUSES) + 1,
     "plan": lambda each: each.codes(3, tuple(PLANS.values())) + 1,
@@ -399,24 +400,24 @@ class ColumnState(Generic[P]):
 
 
 def policies_in(block: bytes, of: type[P]) -> P:
-    """The policies of a block, which has nothing else."""
+    """Returns the policies of a block that has only policies."""
     found = fields_in(block)
     each = found.get(11)
     demand(len(found) == 1 and each, f"{block[:80]!r} begins no policies of a state")
     assert each is not None
     each.wrong(each.codes(0, ("policy",)) == 0)
-    # also what isn't asked for has to be right
+    # fields that are not asked for are checked as well
     columns = {name: read(each) for name, read in READ.items()}
     return of(**{column.name: columns[column.name] for column in fields(of)})
 
 
 def read_state(parts: Iterable[bytes], of: type[P]) -> ColumnState[P]:
-    """What a run of `state` printed."""
+    """Returns what a run of `state` printed."""
     rest = [b""]
 
     def policies() -> Iterator[bytes]:
         for block in blocks_of(parts):
-            # after the policies stand the balances and the count
+            # the balances and the count follow the policies
             is_in = not rest[0] and block.startswith(b"policy,")
             at = (block.find(b"\nbalance,") + 1 or len(block)) if is_in else 0
             rest[0] += block[at:]
@@ -430,18 +431,21 @@ def read_state(parts: Iterable[bytes], of: type[P]) -> ColumnState[P]:
 
 
 def state_of(parts: Iterable[bytes]) -> ColumnState[StatePolicies]:
-    """The book that a run of `state` printed, as far as groups are made by it."""
+    """Returns the book that a run of `state` printed, with only the policies' fields that groups need."""
     return read_state(parts, StatePolicies)
 
 
 def whole_state_of(parts: Iterable[bytes]) -> ColumnState[WholePolicies]:
-    """The same, with all that it printed of each policy."""
+    """Does the same with all fields of the policies."""
     return read_state(parts, WholePolicies)
 
 
 def printed_policies(of: WholePolicies) -> Policies:
-    """The policies of a printed state, which has no day of a last posting: the day of issue stands for it."""
-    # without a policy the columns have a type of no use
+    """Returns the policies of a printed state.
+
+    It does not have the day of the last posting, so the day of issue takes its place.
+    """
+    # if there are no policies, the columns have the wrong type
     plan, age, years, issued = (column.astype(kind) for column, kind in zip((of.plan, of.age, of.years, of.issued),
                                                                             (np.uint8, np.uint8, np.uint8, np.int32)))
     return Policies(of.number, *issue_terms(plan, age, years, issued), of.amount, of.premium, issued.copy(), of.status, of.paid,
@@ -449,7 +453,7 @@ def printed_policies(of: WholePolicies) -> Policies:
 
 
 def balances_in(text: bytes) -> tuple[dict[str, int], int]:
-    """The balances and the count, which follow the policies."""
+    """Returns the balances and the count from the lines after the policies."""
     *lines, last = text.decode("ascii", "replace").splitlines() or [""]
     count = number_of(last[6:], 0, MOST_NUMBER) if last.startswith("count,") else None
     heads = [line.rpartition(",")[0] for line in lines]

@@ -1,4 +1,4 @@
-"""The book that `life state` printed: how many policies there are of each plan and status, and their amounts."""
+"""Reads the book that `life state` printed: the number of policies of each plan and status, and their amounts."""
 from __future__ import annotations
 
 from life_tools.common.formats import PLANS, STATUSES, demand, printed_cents, printed_rows
@@ -7,7 +7,7 @@ POLICY_FIELDS = 11
 
 
 def amounts_of(text: str) -> dict[tuple[str, str], tuple[int, int]]:
-    """By plan and status: how many policies, and their amounts in cents."""
+    """Returns by plan and status the number of policies, and their amounts in cents."""
     rows = printed_rows(text)
     demand(rows and rows[-1][0] == "count", "this isn't what life state prints: its last line is `count,N`")
     found: dict[tuple[str, str], tuple[int, int]] = {}
@@ -23,6 +23,6 @@ def amounts_of(text: str) -> dict[tuple[str, str], tuple[int, int]]:
 
 
 def rows_of(found: dict[tuple[str, str], tuple[int, int]]) -> list[tuple[str, int]]:
-    """A row for each plan and status in their order: its name with the number of policies, and the cents."""
+    """Returns a row for each plan and status in their order: its name with the number of policies, and the cents."""
     keys = [(plan, status) for plan in PLANS.values() for status in STATUSES if (plan, status) in found]
     return [(f"{plan} {status} {found[plan, status][0]}", found[plan, status][1]) for plan, status in keys]

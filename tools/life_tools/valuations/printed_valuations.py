@@ -1,4 +1,4 @@
-"""Printed valuations: a text may have one or several, as `life value` or `life run` printed them."""
+"""Reads printed valuations: a text may have one or more, printed by `life value` or `life run`."""
 from __future__ import annotations
 
 import datetime
@@ -6,13 +6,13 @@ from dataclasses import dataclass, field
 
 from life_tools.common.formats import MOST_NUMBER, Wrong, day_in, demand, measure_of, number_of, printed_cents, printed_rows
 
-# of a measure: what its reserves are called, and the fields of a row and of a total
+# for each measure: the name of its reserves, and the number of fields of a row and of a total
 SHOWN = {"terminal": ("reserves", 6, 4), "mean": ("mean reserves", 6, 4), "deficiency": ("minimum reserves", 9, 6)}
 
 
 @dataclass
 class Valuation:
-    """A printed valuation: its day, position and measure, the upper bounds by policy, the upper sum, the rows with a word."""
+    """A printed valuation: day, position, measure, upper bounds by policy, the upper sum, and the number of rows with a word."""
 
     day: datetime.date
     position: str
@@ -42,7 +42,7 @@ def close(valuation: Valuation, row: list[str]) -> None:
 
 
 def valuations_in(text: str) -> list[Valuation]:
-    """The valuations that stand in a printed text, whatever else is in it."""
+    """Returns the valuations in a printed text, whatever else it has."""
     found: list[Valuation] = []
     for row in printed_rows(text):
         is_open = bool(found) and found[-1].words < 0

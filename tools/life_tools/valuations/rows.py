@@ -1,4 +1,4 @@
-"""The table of printed valuations: its columns, and its rows; it needs no package."""
+"""Makes the table of printed valuations, its columns and its rows, without any package."""
 from __future__ import annotations
 
 from dataclasses import dataclass
@@ -14,7 +14,7 @@ VALUATION = ("day", "position", "measure", "policy", "status", "year", "lower_ce
 
 @dataclass
 class Sums:
-    """The sums of the rows of a valuation, which its total must be."""
+    """The sums of a valuation's rows, which its total must equal."""
 
     lower: int = 0
     upper: int = 0
@@ -31,7 +31,7 @@ class Sums:
 
 
 def valuation_row(head: TableRow, fields: list[str]) -> TableRow:
-    """A row, by what the first line said: the day, the position and the measure."""
+    """Returns the table row of a valuation's row; `head` has the day, the position and the measure of the first line."""
     number, status, year = int(fields[1]), fields[2], int(fields[3])
     if len(fields) == 5:
         return *head, number, status, year, None, None, fields[4], None, None, None
@@ -43,7 +43,7 @@ def valuation_row(head: TableRow, fields: list[str]) -> TableRow:
 
 
 def valuation_rows(path: str, lines: Iterable[str]) -> Iterator[TableRow]:
-    """The rows of the valuations that stand in a text, whatever else is in it; each must add up to its total."""
+    """Yields the rows of the valuations in a text, whatever else it has; each valuation must add up to its total."""
     head, sums = None, Sums()
     count = 0
     for at, line in enumerate(lines, 1):

@@ -1,4 +1,4 @@
-"""What the program itself says of a table's file: a basis of this one table is put beside it, and a valuation asked for."""
+"""Asks the program itself about a table's file: a valuation by a basis that has only this table."""
 from __future__ import annotations
 
 import os
@@ -13,7 +13,7 @@ from life_tools.tables.basis import NAME
 BASIS = "basis.csv"
 DAY = "2000-01-01"
 TAKEN, BAD_BASIS = 0, 4
-# the name of a file whose own can't stand in a basis
+# used in place of a file name that cannot stand in a basis
 STANDS_FOR = "table.xml"
 OF_THE_PROGRAM = (BASIS, "journal.life", "checkpoint.life")
 
@@ -24,14 +24,14 @@ def name_for(path: str) -> str:
 
 
 def verdict_on(data: bytes, name: str, life: str | None = None) -> str:
-    """Nothing where the program takes a table of these bytes, else its line `badbasis,NAME,PLACE,WORD`."""
+    """Returns "" if the program takes a table of these bytes, and otherwise its line `badbasis,NAME,PLACE,WORD`."""
     command = life_command(life)
     with tempfile.TemporaryDirectory(prefix="life-tools-") as desk:
         with open(os.path.join(desk, BASIS), "w", encoding="ascii") as file:
             file.write(f"1900-01-01,{name},0\n")
         with open(os.path.join(desk, name), "wb") as table:
             table.write(data[:MOST_BASIS_BYTES + 1])
-        # a book without a command, since the launcher asks nothing of a folder that has none
+        # the launcher refuses a folder without a journal, so an empty one is made
         with open(os.path.join(desk, JOURNAL), "wb") as journal:
             journal.write(EMPTY)
         status, printed = run_in(desk, command, ["value", DAY])
