@@ -1,4 +1,5 @@
-"""Many books on a cluster of Dask: a task is a book, which any worker may do, and do anew where another one died."""
+"""Runs many books on a cluster of Dask: each task is one book; any worker may do it, and another one repeats it if that worker
+dies."""
 from __future__ import annotations
 
 import os
@@ -21,17 +22,17 @@ from life_tools.common.packages import package
 SECONDS_TO_CONNECT = 10
 SECONDS_TO_ANSWER = 60
 SECONDS_BETWEEN = 0.02
-# without a worker, and between two looks at the workers
+# seconds without a worker after which that is reported, and seconds between two looks at the workers
 SECONDS_ALONE, SECONDS_TO_LOOK = 10, 1
 # how many workers may die over one book
 MOST_DEATHS = 3
 MOST_LETTERS = 300
-# how many threads make tasks and compare outcomes, beside the runs
+# how many threads make tasks and compare outcomes while books run
 BESIDE = 2
 Tell = Callable[[Outcome], None]
-# what an outcome is, once it is compared with what is here
+# returns an outcome after it was compared with what this machine sees
 Settle = Callable[[Outcome], Outcome]
-# a task, or that none can be made
+# returns a task, or the outcome if no task can be made
 Make = Callable[[], "Task | Outcome"]
 
 
@@ -40,14 +41,14 @@ def distributed() -> ModuleType:
 
 
 def pack_tools(path: str) -> None:
-    """The package life_tools as one file that Python reads, from wherever it lies here."""
+    """Writes the package life_tools as one zip file that Python can import, wherever the package is installed here."""
     with zipfile.ZipFile(path, "w") as packed:
         for name in modules_below(life_tools):
             packed.writestr(f"life_tools/{name}", pkgutil.get_data("life_tools", name) or b"")
 
 
 def modules_below(module: ModuleType) -> Iterator[str]:
-    """The files of a package's modules, but for the window's, which no worker needs."""
+    """Yields the files of a package's modules, without those of the window, which no worker needs."""
     below = [found.name for found in pkgutil.iter_modules(module.__path__) if found.ispkg and found.name != "window"]
     for folder in ("", *below):
         yield os.path.join(folder, "__init__.py")
@@ -57,7 +58,7 @@ def modules_below(module: ModuleType) -> Iterator[str]:
 
 
 def tools_here() -> str:
-    """The sum of these tools as they were when they were read."""
+    """Returns the checksum of these tools as they were when they were imported."""
     return sum_of(b"".join(pkgutil.get_data("life_tools", name) or b"" for name in modules_below(life_tools)))
 
 
@@ -65,7 +66,10 @@ TOOLS = tools_here()
 
 
 def run_there(task: Task, tools: str) -> Outcome:
-    """On a worker: its own folder takes the copies, so that what one leaves that dies is Dask's to remove."""
+    """Runs a task on a worker.
+
+    The copies are made in the worker's own folder, so that Dask removes them if the worker dies.
+    """
     if tools != TOOLS:
         return Outcome(task.name, NOT_DONE, f"{socket.gethostname()} has other tools: begin its workers anew")
     worker = distributed().get_worker()
@@ -74,7 +78,7 @@ def run_there(task: Task, tools: str) -> Outcome:
 
 @contextmanager
 def at_most(seconds: int, why: str) -> Iterator[None]:
-    """Dask may wait for ever on a scheduler that goes away in the midst of a call; this ends the wait."""
+    """Raises Wrong after so many seconds, because Dask may wait forever for a scheduler that stops in the middle of a call."""
     def end(*_: object) -> None:
         raise Wrong(why)
     before = signal.signal(signal.SIGALRM, end)
@@ -90,14 +94,14 @@ Made = TypeVar("Made")
 
 
 def taken(futures: list[Future[Made]]) -> list[Made]:
-    """The results of those that are done, which are taken out."""
+    """Removes the futures that are done from the list, and returns their results."""
     done = [each for each in futures if each.done()]
     futures[:] = [each for each in futures if each not in done]
     return [each.result() for each in done]
 
 
 class Absence:
-    """Since when there is no worker: told once, and the books go on waiting for one."""
+    """Since when there is no worker. This is reported once, and the books wait for a worker."""
 
     def __init__(self) -> None:
         self.since: float | None = None
@@ -114,7 +118,7 @@ class Absence:
 
 
 class Cluster:
-    """A scheduler and its workers, which are handed these tools."""
+    """A scheduler and its workers, to which these tools are sent."""
 
     def __init__(self, address: str) -> None:
         self.dask = distributed()
@@ -129,7 +133,7 @@ class Cluster:
             self.hand_tools()
 
     def workers(self) -> int:
-        """How many books can be worked on at once."""
+        """Returns how many books can be worked on at once."""
         try:
             with at_most(SECONDS_TO_ANSWER, f"the scheduler at {self.address} went away"):
                 info: dict[str, Any] = self.client.scheduler_info()
@@ -138,7 +142,7 @@ class Cluster:
         return sum(worker["nthreads"] for worker in info["workers"].values())
 
     def hand_tools(self) -> None:
-        """Also to workers that come later, as one that takes a dead one's place."""
+        """Sends the tools to all workers, and also to those that come later, such as one that replaces a dead worker."""
         with tempfile.TemporaryDirectory() as folder:
             path = os.path.join(folder, "life_tools.zip")
             pack_tools(path)
@@ -149,12 +153,15 @@ class Cluster:
             with at_most(SECONDS_TO_CONNECT, "it doesn't close"):
                 self.client.close(timeout=2)
         except Exception as error:  # noqa: B902
-            # what is closed may be gone already
+            # the connection may be gone already
             del error
 
     def run(self, makes: list[Make], settle: Settle, tell: Tell) -> list[Outcome]:
-        """Runs the tasks, each made when its turn comes, so that few are held at once; gives what became of each. Tasks are
-        made, and outcomes compared with what is here, beside the runs."""
+        """Runs the tasks and returns the outcome of each.
+
+        Each task is made when its turn comes, so that few are in memory at once. Threads make tasks, and compare outcomes with
+        what this machine sees, while other tasks run.
+        """
         waiting = list(reversed(makes))
         making: list[Future[Task | Outcome]] = []
         running: dict[Any, Task] = {}
@@ -180,7 +187,10 @@ class Cluster:
             running[self.client.submit(run_there, made, TOOLS, pure=False, retries=MOST_DEATHS)] = made
 
     def done_of(self, running: dict[Any, Task], ended: int, books: int) -> list[Any]:
-        """Those that have ended by now, or soon. Where the scheduler is gone, so are all that run."""
+        """Returns the futures that have ended, after a short wait.
+
+        Raises Wrong if the scheduler is gone, since then all runs are lost.
+        """
         time.sleep(SECONDS_BETWEEN)
         if running and time.monotonic() - self.looked >= SECONDS_TO_LOOK:
             self.looked = time.monotonic()
@@ -195,6 +205,6 @@ class Cluster:
             outcome: Outcome = future.result(timeout=SECONDS_TO_CONNECT)
             return outcome
         except Exception as error:  # noqa: B902
-            # whatever Dask says of a task that it gave up
+            # Dask gives many kinds of reasons for giving a task up
             why = f"the cluster gave it up: {type(error).__name__} {error}".replace("\n", " ")
             return Outcome(task.name, NOT_DONE, why[:MOST_LETTERS])

@@ -1,8 +1,8 @@
-"""A book divided: the journals that its parts have to become, and how the program makes them anew in memory.
+"""Divides a book: finds the journals that its parts must become, and has the program make them in memory.
 
-The program runs each part's lines in their order, by scripts that it takes, and the parts side by side. A part is right where
-its journal has the very records of the old one, the states together are the old one's line by line, the valuations row by
-row, and the balances in sums.
+The program runs each part's lines in their order, as scripts of at most the permitted size, and all parts in parallel. A part is
+right if its journal has exactly the old book's records of its policies. Together, the states must equal the old one line by line,
+the valuations row by row, and the balances in sum.
 """
 from __future__ import annotations
 
@@ -25,20 +25,20 @@ from life_tools.journal.record_texts import HELD, lines_of
 
 PREFIX = "life-split-"
 SECONDS_BETWEEN = 0.1
-# beside the journals lie scripts, transcripts and what is printed
+# scripts, transcripts and output need memory as well as the journals
 TIMES_THE_JOURNAL = 6
 OLD = "old"
 
 
 class Unlike(Wrong):
-    """What the new books say together isn't what the old one says."""
+    """The new books together do not show what the old one shows."""
 
     status = 1
 
 
 @dataclass(frozen=True)
 class Division:
-    """A book's bytes and columns; of each policy the place of its new book; how many these are; the day of the valuations."""
+    """A book's bytes and columns, the place of each policy's new book, the number of new books, and the day of the valuations."""
 
     data: bytes
     book: Columns
@@ -49,31 +49,31 @@ class Division:
     on: str
 
     def chosen(self, part: int) -> Array:
-        """Which records a part has: those of its policies, and an upgrade."""
+        """Returns which records a part has: those of its policies, and the upgrade."""
         found: Array = np.append(self.places, -1)[self.book.place] == part
         found |= self.book.records.kind == UPGRADE
         return found
 
     def journal(self, part: int) -> bytes:
-        """The journal that a part has to become."""
+        """Returns the journal that a part must become."""
         raw = raw_records(self.data, self.book.count)
         return b"".join((self.data[:FIRST_GATE], raw[self.chosen(part)].tobytes(), bytes(1)))
 
     @property
     def more_commands(self) -> int:
-        """The upgrade is in each part."""
+        """Returns how many more commands the new books have together than the old one: each new book repeats the upgrade."""
         return self.parts - 1 if self.book.upgrade else 0
 
 
 # --- the scripts and the runs ---
 
 def template(kind: str) -> str:
-    """A line of the one clerk, whose fields are those of a record but for its position."""
+    """Returns the template of a script's line; its columns are those of a record, of which the position is left out."""
     return "%.0s" + ",".join(["1", kind, *["%s"] * (len(HELD[kind]) - 1)]) + "\n"
 
 
 def scripts_of(records: Records) -> Iterator[bytes]:
-    """The records as scripts, each below what a script may have."""
+    """Yields the records as scripts, each of at most the size that a script may have."""
     held: list[bytes] = []
     size = 0
     for block in (each.encode("ascii") for each in lines_of(records, template)):
@@ -86,7 +86,7 @@ def scripts_of(records: Records) -> Iterator[bytes]:
 
 
 def laid_scripts(division: Division, part: int, folder: str) -> list[str]:
-    """Writes a part's scripts into its folder."""
+    """Writes a part's scripts into its folder, and returns their paths."""
     os.mkdir(folder)
     copy_basis(division.folder, division.basis, folder)
     chosen, records = np.flatnonzero(division.chosen(part)), division.book.records
@@ -99,7 +99,7 @@ def laid_scripts(division: Division, part: int, folder: str) -> list[str]:
 
 
 def asked(life: Sequence[str], folder: str, words: Sequence[str], printed: str, script: str = os.devnull) -> None:
-    """What the program prints goes to a file of its folder; it has to end well."""
+    """Runs the program with its output in a file of the folder, and raises Wrong unless it ends with status 0."""
     with open(script, "rb") as given, open(os.path.join(folder, printed), "wb") as out:
         try:
             ran = subprocess.run([*life, *words], cwd=folder, stdin=given, stdout=out, stderr=subprocess.PIPE)
@@ -139,7 +139,7 @@ def run_old(life: Sequence[str], folder: str, division: Division) -> None:
 
 
 def waited(runs: Sequence[Future[None]], desk: str, parts: int, count: int) -> None:
-    """Waits for the runs, telling how many commands are posted; what went wrong in one is raised."""
+    """Waits for the runs while it shows how many commands are posted, and raises the error of a run that failed."""
     progress = Progress("posted", count)
     paths = [os.path.join(desk, str(part), JOURNAL) for part in range(parts)]
     while not all(run.done() for run in runs):
@@ -157,7 +157,7 @@ def waited(runs: Sequence[Future[None]], desk: str, parts: int, count: int) -> N
 
 
 def run_parts(division: Division, desk: str, life: Sequence[str], processes: int) -> None:
-    """Makes each part, and prints what it and the old book say."""
+    """Makes each part, and has the program print the states and valuations of the parts and of the old book."""
     with ThreadPoolExecutor(processes) as pool:
         runs = [pool.submit(run_old, life, os.path.join(desk, OLD), division)]
         for part in range(division.parts):
@@ -180,13 +180,13 @@ def text_of(word: str, file: IO[bytes]) -> Text:
     text = text_in(word, file)
     file.seek(0)
     if word == "value":
-        # the first line, which states the position and the count
+        # skip the first line, which has the position and the count
         file.readline()
     return text
 
 
 def demand_lines(word: str, division: Division, old: IO[bytes], parts: Sequence[IO[bytes]]) -> None:
-    """Demands that each policy's line of the old book is the next one of its new book, and that no other is left."""
+    """Raises Unlike unless each policy's line of the old book is the next line of its new book, and no further line is left."""
     begins = {"state": b"policy,", "value": b"row,"}[word]
     for place in division.places.tolist():
         line, found = old.readline(), parts[place].readline()
@@ -208,7 +208,7 @@ def demand_sums(word: str, division: Division, old: Text, parts: Sequence[Text])
 
 
 def demand_alike(division: Division, desk: str) -> None:
-    """Demands that the new books together say what the old one says."""
+    """Raises Unlike unless the new books together show what the old one shows."""
     demand_journals(division, desk)
     for word in ("state", "value"):
         files = [open(os.path.join(desk, name, word), "rb") for name in (OLD, *map(str, range(division.parts)))]

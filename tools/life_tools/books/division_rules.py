@@ -1,11 +1,11 @@
-"""Which of the new books takes each policy of a book that is divided: the rules, one for each new book.
+"""Assigns each policy of a book that is divided to one of the new books, by one rule for each new book.
 
-  numbers=1-4999,8001        policies of these numbers; `5000-` is up to the last one
+  numbers=1-4999,8001        policies with these numbers; `5000-` has no upper end
   years=1990-1999            policies issued in these years
   class=smoker               policies of a class, by a file of classes
   others                     policies that fall under no other rule
 
-Each policy has to fall under one rule, and under each rule at least one policy.
+Each policy must fall under exactly one rule, and at least one policy under each rule.
 """
 from __future__ import annotations
 
@@ -19,12 +19,12 @@ from life_tools.journal.policy_columns import Policies
 
 OTHERS = "others"
 KINDS = ("numbers", "years", "class")
-# fewer new books are no division, and more would be folders told by mistake
+# a single new book is no division; more than 64 are likely to be folders named by mistake
 LEAST, MOST = 2, 64
 
 
 class Rule(NamedTuple):
-    """A rule as it was given, and whether each policy falls under it."""
+    """A rule as it was typed, and the function that says which policies fall under it."""
 
     text: str
     takes: Callable[[Policies], Array]
@@ -35,7 +35,7 @@ def is_rule(word: str) -> bool:
 
 
 def spans_in(text: str, least: int, most: int) -> list[tuple[int, int]]:
-    """The spans of a list as 1-4999,8001,9000-, without a blank."""
+    """Returns the ranges of a list such as 1-4999,8001,9000-, which has no blank."""
     found = []
     for span in text.split(","):
         first, between, last = span.partition("-")
@@ -79,7 +79,7 @@ def rules_in(words: Sequence[str], ranges: Sequence[Range] | None) -> list[Rule]
 
 
 def places_by(rules: Sequence[Rule], policies: Policies) -> Array:
-    """The place of the rule under which each policy falls."""
+    """Returns the place of the rule under which each policy falls; each policy must fall under exactly one."""
     takes = np.array([rule.takes(policies) for rule in rules])
     for place, rule in enumerate(rules):
         if rule.text == OTHERS:

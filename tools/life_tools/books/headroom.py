@@ -1,4 +1,4 @@
-"""How many commands a book has left, how fast they are used, and what its policies will still need.
+"""Computes how many commands a book has left, how fast they are used, and how many its policies will still need.
 
 Days are numbers from 1970-01-01.
 """
@@ -17,15 +17,16 @@ from life_tools.common.formats import LAST_DAY, MOST_COMMANDS, Wrong, bytes_of, 
 from life_tools.journal.policy_columns import INFORCE, MADE_PAIDUP, TERM, Policies
 
 YEAR = 365
-# more days than from any today to the end of any policy
+# more days than from any present day to the end of any policy
 MOST_DAYS = 200_000
-# a book is reported so many days before it is full, if nothing else is asked for
+# a book is reported so many days before it is full, unless another number is given
 AHEAD = 2 * YEAR
 DAY_IN_NAME = re.compile(r"(?<![0-9])[0-9]{4}-[0-9]{2}-[0-9]{2}(?![0-9])")
 
 
 class Needed(NamedTuple):
-    """The commands that policies still need: premiums; maturities and settlements at the end; and all by days from today on."""
+    """The commands that policies still need: premiums, maturities and settlements at the end, and all of them by day from
+    today."""
 
     premiums: int
     at_end: int
@@ -33,7 +34,7 @@ class Needed(NamedTuple):
 
 
 class Room(NamedTuple):
-    """The room of a book: the days are those on which a command finds it full, or none."""
+    """The capacity of a book. `full` and `full_alone` are the days on which a command finds it full, or None."""
 
     commands: int
     used: int
@@ -51,7 +52,7 @@ class Room(NamedTuple):
                 f"{until(self.full_alone)}")
 
     def warnings(self, today: int, least: int, within: int) -> Iterator[str]:
-        """What is reported of it: fewer commands than are wanted, or full within so many days."""
+        """Yields what is to be reported: fewer commands left than `least`, or full within so many days."""
         if self.left < least:
             yield f"{self.left} commands are left, fewer than {least}"
         days = [day for day in (self.full, self.full_alone) if day is not None]
@@ -72,7 +73,7 @@ def until(day: int | None) -> str:
 # --- what policies need ---
 
 def needed_by(policies: Policies, today: int) -> Needed:
-    """What policies need, each command on its day, or today where that has gone by."""
+    """Returns what policies need, with each command on its day, or today if its day has passed."""
     is_insured = (policies.status == INFORCE) | (policies.status == MADE_PAIDUP)
     at_end = np.where(is_insured, np.where(policies.plan == TERM, 1, 2), 0) + (policies.outstanding > 0)
     by_day = counted(np.where(is_insured, policies.end, today), today, at_end)
@@ -87,12 +88,12 @@ def needed_by(policies: Policies, today: int) -> Needed:
 
 
 def counted(days: Array, today: int, each: Array | None = None) -> Array:
-    """How many commands fall on each day from today on; those of days before fall on today."""
+    """Returns how many commands fall on each day from today on; those of earlier days fall on today."""
     return np.bincount(np.maximum(days - today, 0), each, MOST_DAYS).astype(np.int64)
 
 
 def first_beyond(by_day: Array, left: int, today: int) -> int | None:
-    """The day of the first command that finds no room."""
+    """Returns the day of the first command that finds the book full, or None."""
     is_beyond = by_day.cumsum() > left
     return today + int(is_beyond.argmax()) if is_beyond.any() else None
 
@@ -107,7 +108,7 @@ class Recorded(NamedTuple):
 
 
 def used_in_year(days: Array, today: int, recorded: Iterable[Recorded]) -> int:
-    """The commands of the last year: by their days, or by what was noted of the count, whichever are more."""
+    """Returns the number of commands in the last year: by their days or by the noted counts, whichever is greater."""
     by_days = int(((days > today - YEAR) & (days <= today)).sum())
     noted = sorted(it for it in recorded if it.day <= today and it.commands <= len(days))
     before = [it for it in noted if it.day <= today - YEAR]
@@ -116,7 +117,7 @@ def used_in_year(days: Array, today: int, recorded: Iterable[Recorded]) -> int:
 
 
 def recorded_in_log(log: str) -> Iterator[Recorded]:
-    """The counts before each run that `life-tools day` noted, on the day of the run."""
+    """Yields the counts before each run that `life-tools day` noted, with the day of the run."""
     runs = os.path.join(log, "runs")
     for name in os.listdir(runs) if os.path.isdir(runs) else ():
         path = os.path.join(runs, name, "run.json")
@@ -126,7 +127,7 @@ def recorded_in_log(log: str) -> Iterator[Recorded]:
 
 
 def day_in_name(path: str) -> int:
-    """The day that a name has in it."""
+    """Returns the day that is part of a file's name."""
     found = DAY_IN_NAME.search(os.path.basename(path))
     try:
         return number_at(datetime.date.fromisoformat(found[0] if found else ""))
@@ -135,7 +136,8 @@ def day_in_name(path: str) -> int:
 
 
 def recorded_at(path: str) -> dict[str, Recorded]:
-    """The positions of a month-end, by the books' names: rows of a name and a position, in a file named by its day."""
+    """Returns the positions of a month-end by the books' names; the file has rows of a name and a position, and a day in its
+    name."""
     day, found = day_in_name(path), {}
     for row in rows_in(bytes_of(path)):
         count = number_of(row.fields[1], 0, MOST_COMMANDS) if len(row.fields) == 2 else None
@@ -146,7 +148,7 @@ def recorded_at(path: str) -> dict[str, Recorded]:
 
 
 def room_of(book: Columns, recorded: Iterable[Recorded], today: int) -> Room:
-    """The room of a book, with the counts that were noted of it."""
+    """Returns the capacity of a book, with the counts that were noted of it."""
     left, needed = MOST_COMMANDS - book.count, needed_by(book.policies, today)
     used = used_in_year(book.records.day, today, recorded)
     return Room(book.count, used, today + left * YEAR // used if used else None, needed.premiums, needed.at_end,

@@ -1,4 +1,4 @@
-"""Lists of books: a CSV with a name, a folder and the name of a basis file a row; and lists of a position for each book."""
+"""Reads lists of books, CSV files with a name, a folder and the name of a basis file in each row, and lists of positions."""
 from __future__ import annotations
 
 import os
@@ -9,13 +9,13 @@ from life_tools.common.formats import MOST_COMMANDS, Wrong, bytes_of, demand, nu
 from life_tools.tables.basis import NAME
 
 BOOK_NAME = re.compile("[A-Za-z0-9][A-Za-z0-9._-]{0,63}")
-# the name before the totals
+# the name of the row with the totals
 ALL = "all"
 
 
 @dataclass(frozen=True)
 class ListedBook:
-    """A book of a list; its folder is absolute, and need not be there."""
+    """A book of a list; its folder is absolute, and need not exist."""
 
     name: str
     folder: str
@@ -45,7 +45,7 @@ def demand_once(book: ListedBook, before: list[ListedBook]) -> None:
 
 
 def books_at(path: str) -> list[ListedBook]:
-    """The books of a list; folders are relative to the list's own folder."""
+    """Returns the books of a list; folders are relative to the list's own folder."""
     found: list[ListedBook] = []
     for row in rows_in(bytes_of(path)):
         try:
@@ -59,7 +59,7 @@ def books_at(path: str) -> list[ListedBook]:
 
 
 def positions_at(path: str, books: list[ListedBook]) -> dict[str, int]:
-    """A position for each book: rows of a name and a position, as `position-on` prints them."""
+    """Returns a position for each book from rows of a name and a position, as `position-on` prints them."""
     found: dict[str, int] = {}
     for row in rows_in(bytes_of(path)):
         position = number_of(row.fields[1], 0, MOST_COMMANDS) if len(row.fields) == 2 else None

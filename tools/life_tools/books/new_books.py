@@ -1,6 +1,6 @@
-"""The folders of new books: each is filled beside its place, synced, read again from the disk, and then put there.
+"""Makes the folders of new books: each is filled beside its final place, synced, read again from the disk, and then renamed.
 
-A run that is killed leaves at most folders `NAME.new`, which the next one removes, and some that are in place already.
+A killed run leaves at most folders `NAME.new`, which the next run removes, and some folders that are already in place.
 """
 from __future__ import annotations
 
@@ -22,7 +22,8 @@ def name_of(folder: str) -> str:
 
 
 def demand_new_folders(folders: Sequence[str], files: Sequence[str]) -> None:
-    """Demands places for new books: nothing stands there, but what a killed run of the same kind left beside them."""
+    """Raises Wrong unless the new books can be made: nothing may be at their places, except what a killed run of the same kind
+    left."""
     names = [name_of(folder) for folder in folders]
     for folder, name in zip(folders, names):
         is_name = BOOK_NAME.fullmatch(name) and name != ALL
@@ -34,14 +35,14 @@ def demand_new_folders(folders: Sequence[str], files: Sequence[str]) -> None:
 
 
 def demand_left(folder: str, files: Sequence[str]) -> None:
-    """Demands that a folder isn't there, or has nothing but files as a killed run leaves them."""
+    """Raises Wrong unless the folder does not exist, or has only files that a killed run leaves."""
     if os.path.lexists(folder):
         is_ours = os.path.isdir(folder) and not os.path.islink(folder) and set(os.listdir(folder)) <= set(files)
         demand(is_ours, f"{folder} is there already, and isn't what a killed run left")
 
 
 def written_through(path: str, data: bytes) -> None:
-    """Writes a file to the disk, and has the system forget it, so that it is read from there."""
+    """Writes a file, syncs it, and drops it from the system's cache, so that it is read from the disk."""
     with open(path, "xb") as file:
         file.write(data)
         file.flush()
@@ -58,7 +59,7 @@ def sync_folder(path: str) -> None:
 
 
 def fill(folder: str, files: Mapping[str, bytes]) -> None:
-    """Fills a new folder, and compares what the disk has."""
+    """Fills a new folder, and compares what the disk has with what was written."""
     if os.path.isdir(folder):
         shutil.rmtree(folder)
     os.mkdir(folder)
@@ -71,7 +72,7 @@ def fill(folder: str, files: Mapping[str, bytes]) -> None:
 
 
 def put_in_place(folders: Sequence[str], parts: Sequence[str], shared: Mapping[str, bytes]) -> None:
-    """Copies the journals of these folders into new ones, and puts all in place once each is on the disk."""
+    """Copies the journals of these folders into new ones, and renames all of them into place once each is on the disk."""
     try:
         for folder, part in zip(folders, parts):
             with open(os.path.join(part, JOURNAL), "rb") as file:

@@ -1,4 +1,4 @@
-"""A run of the program over one book of many: in its folder, or on a copy at a position. It is what a worker does."""
+"""Runs the program over one book of many, in its folder or on a copy at a position; workers call this."""
 from __future__ import annotations
 
 import hashlib
@@ -25,15 +25,15 @@ from life_tools.valuations.rows import VALUATION, valuation_rows
 from life_tools.journal.wholeness import doubt_of
 
 JOURNAL = "journal.life"
-# the words of which these tools make something of their own, by what the program prints
+# the words of commands whose results these tools make from what the program prints
 OWN = ("report", "movement", "statement", "due", "flags", "sample", "papers", "letters")
-# the status of what the program can't be asked, and the program's own of a file that is no journal
+# the status if the program cannot be run at all, and the program's own status for a file that is not a journal
 NOT_DONE, BAD_JOURNAL = 2, 5
 
 
 @dataclass(frozen=True)
 class Parts:
-    """Where the lines of a book go: a file of its own in this folder, as CSV or SQLite."""
+    """Where the lines of a book are written: a file of its own in this folder, as CSV or SQLite."""
 
     folder: str
     form: str
@@ -41,7 +41,7 @@ class Parts:
 
 @dataclass(frozen=True)
 class Task:
-    """One book's work: the words; the program, or how it is found; the position; and for a copy what it has to be."""
+    """The work on one book: the arguments, the program or how to find it, the position, and what a copy must be."""
 
     name: str
     folder: str
@@ -50,32 +50,32 @@ class Task:
     life: tuple[str, ...]
     at: int | None = None
     is_copied: bool = False
-    # of a worker elsewhere: the sum of the program; where files are sent, the sum of each by its name, and the files
+    # for a worker on another machine: the checksum of the program; and if files are sent, the checksum of each, and the files
     program_sum: str = ""
     sums: tuple[tuple[str, str], ...] = ()
     files: tuple[tuple[str, bytes], ...] = ()
     parts: Parts | None = None
     are_rows_kept: bool = False
     doubt: str = ""
-    # the opening position, and of rows that were printed already the file and its sum
+    # the opening position; and for rows that were printed already, the file and its checksum
     first: int | None = None
     rows_in: tuple[str, str] | None = None
-    # the bases of classes, of a change those before and after it; and the book's part of a sample
+    # the bases of classes (for a change, those before and after it), and the book's part of a sample
     bases: tuple[Bases, ...] = ()
     drawn: Sample | None = None
 
     @property
     def basis_names(self) -> list[str]:
-        """The basis files that are wanted in the folder."""
+        """Returns the names of the basis files that the folder must have."""
         return list(dict.fromkeys(name for each in self.bases for name in each.names)) or [self.basis]
 
 
 @dataclass
 class Outcome:
-    """What became of a task: the status and the last line; and where it is well, what is added up.
+    """The outcome of a task: the status and the last line; and if the status is 0, what is to be added up.
 
-    Of the policies' numbers it has the beginnings: where those of two books differ, no number stands in both. They may be
-    of later commands, too. Of a copy it has the sums of the files, by their names.
+    `beginnings` has the first bytes of the policies' numbers: if those of two books differ, no number is in both. They may
+    include numbers of later commands. For a copy, `sums` has the checksums of the files by their names.
     """
 
     name: str
@@ -88,12 +88,12 @@ class Outcome:
     part: tuple[str, str, str] | None = None
     doubt: str = ""
     tried: int = field(default=1)
-    # of a word that the program doesn't have: what these tools made of it
+    # for a command that the program does not have: what these tools made
     made: Any = None
 
     @property
     def position(self) -> int | None:
-        """The position that it is of, where it is well."""
+        """Returns the position of what was made, or None if nothing was."""
         found = self.text or self.made
         return found.position if found else None
 
@@ -105,7 +105,7 @@ def sum_of(data: bytes) -> str:
 # --- the program of a worker ---
 
 def program_of(task: Task) -> list[str]:
-    """The program's words; of a worker elsewhere the program is one of the sum told, wherever it lies."""
+    """Returns the program's arguments. On another machine the program is the one with the wanted checksum, wherever it is."""
     if not task.program_sum:
         return list(task.life)
     found = shutil.which("life")
@@ -137,7 +137,7 @@ def lay_copy(task: Task, folder: str) -> None:
 
 
 def demand_journal(folder: str) -> None:
-    """The program would make a journal where none is."""
+    """Raises Wrong if there is no journal, because the program would make one."""
     path = os.path.join(folder, JOURNAL)
     demand(os.path.isfile(path), f"there is no {path}")
 
@@ -151,7 +151,7 @@ def words_of(task: Task) -> list[str]:
 
 
 def printed_by(life: list[str], words: list[str], folder: str, out: IO[bytes]) -> tuple[int, str]:
-    """The status of a run, and what it said on standard error."""
+    """Runs the program and returns the status, and what it wrote to standard error."""
     try:
         ran = subprocess.run([*life, *words], cwd=folder, stdin=subprocess.DEVNULL, stdout=out, stderr=subprocess.PIPE,
                              check=False)
@@ -172,7 +172,7 @@ def last_line(file: IO[bytes]) -> str:
 
 
 def named(name: str, file: IO[bytes], out: IO[bytes]) -> None:
-    """Writes the lines of a file with the book's name before each."""
+    """Writes the lines of a file, each with the book's name before it."""
     front = name.encode() + b","
     file.seek(0)
     is_new = True
@@ -184,7 +184,7 @@ def named(name: str, file: IO[bytes], out: IO[bytes]) -> None:
 
 
 def write_part(task: Task, file: IO[bytes]) -> tuple[str, str, str]:
-    """Puts the lines into a file of the folder of parts: the host, the path, and the sum."""
+    """Writes the lines to a file in the folder of parts, and returns the host, the path, and the checksum."""
     assert task.parts
     os.makedirs(task.parts.folder, exist_ok=True)
     path = os.path.join(task.parts.folder, f"{task.name}.{'csv' if task.parts.form == 'csv' else 'db'}")
@@ -211,9 +211,11 @@ def write_part_database(task: Task, file: IO[bytes], path: str) -> None:
 
 @dataclass(frozen=True)
 class Look:
-    """What was seen of a folder while the program ran: the beginnings of so many records, and the sums of a copy's files.
+    """What was seen of a folder while the program ran: the count, the beginnings of the numbers, and the checksums of a copy's
+    files.
 
-    And what has to be reported of the book itself, where it may not be whole; one of which commands are gone is no book.
+    `doubt` is what must be reported because the book may not be whole. If commands are known to be gone, an error is raised
+    instead.
     """
 
     count: int
@@ -238,12 +240,12 @@ def sums_of(folder: str, count: int) -> Iterator[tuple[str, str]]:
         yield name, prefix_sum(path, count) if name == JOURNAL else sum_of(bytes_of(path))
 
 
-# one at a time, beside the runs of the program
+# one look at a time, in parallel to the runs of the program
 LOOKING = ThreadPoolExecutor(1)
 
 
 def own_in(task: Task, folder: str) -> Outcome:
-    """What these tools make of a book: it is imported here, since it wants numpy."""
+    """Makes what these tools compute of a book."""
     from life_tools.books.sheets import Wanted, made_of
     program = program_of(task)
     life = program[0] if len(program) == 1 else None
@@ -283,7 +285,7 @@ def failure(name: str, why: Exception) -> Outcome:
 
 
 def run_on(task: Task, folder: str, room: str | None) -> Outcome:
-    """Runs a task in a folder; the file of its lines stays where they are kept."""
+    """Runs a task in a folder; the file with its lines is kept if the task asks for that."""
     with tempfile.NamedTemporaryFile(prefix="life-book-", dir=room, delete=False) as file:
         try:
             outcome = run_in(task, folder, file)
@@ -296,7 +298,7 @@ def run_on(task: Task, folder: str, room: str | None) -> Outcome:
 
 
 def run_once(task: Task, room: str | None = None) -> Outcome:
-    """Runs a task; what can't be asked of the program is reported with a status of its own. Copies are made in the room."""
+    """Runs a task; if the program cannot be run, the outcome has a status of its own. Copies are made in the folder `room`."""
     desk = ""
     try:
         if not task.is_copied:
@@ -307,5 +309,5 @@ def run_once(task: Task, room: str | None = None) -> Outcome:
             return run_on(task, desk, room)
     except (Wrong, OSError, ValueError, zlib.error) as wrong:
         outcome = failure(task.name, wrong)
-        # the copy's folder says nothing to whoever reads this
+        # the path of the copy means nothing to the reader
         return replace(outcome, line=outcome.line.replace(desk, task.folder)) if desk else outcome

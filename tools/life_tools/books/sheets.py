@@ -1,8 +1,10 @@
-"""What a worker makes of one book of a list beside the program's texts: a report, a movement, a statement, what is due,
-flags, rows to draw from, papers and letters. What is added up is what the program printed of that book, before it is sent.
+"""Makes for one book of a list what the program does not print: a report, a movement, a statement, due items, flags, rows to draw
+from, papers and letters.
 
-The words of a task: report ON MEASURE KEYS.., movement ON1 ON2 MEASURE, statement ON1 ON2 MEASURE, due DAY WITHIN,
-flags LATE, sample ON MEASURE BY, papers, letters.
+Before a result is sent, its sums are compared with what the program printed for that book.
+
+The words of a task: report ON MEASURE KEYS.., movement ON1 ON2 MEASURE, statement ON1 ON2 MEASURE, due DAY WITHIN, flags LATE,
+sample ON MEASURE BY, papers, letters.
 """
 from __future__ import annotations
 
@@ -35,15 +37,17 @@ AT_ONCE = 1 << 20
 
 
 class NotAdded(Wrong):
-    """What was added up of a book isn't what the program printed."""
+    """What was added up for a book is not what the program printed."""
 
     status = 1
 
 
 @dataclass(frozen=True)
 class Wanted:
-    """One book's work: its folder, bases (of a change those before and after it) and program; its positions; the words; a
-    part with its sum, where rows are taken from it; and its own part of a sample."""
+    """The work on one book: its folder, bases (for a change, those before and after it), program, positions and words.
+
+    `part` is a part file with its checksum if rows are taken from one; `drawn` is the book's own part of a sample.
+    """
 
     name: str
     folder: str
@@ -87,7 +91,7 @@ class Made:
 
 @dataclass(frozen=True)
 class Reported:
-    """The groups of each table, and the sums of all."""
+    """The groups of each table, and the sums of all policies."""
 
     tables: list[tuple[list[str], Groups]]
     total: Sums
@@ -95,7 +99,7 @@ class Reported:
 
 @dataclass(frozen=True)
 class MovedBook:
-    """The lines of an analysis of change, and the cash beside them; and the rows with a word at both ends."""
+    """The lines of an analysis of change, the cash of the period, and the number of rows with a word at both ends."""
 
     lines: list[Moved]
     cash: Cash
@@ -105,7 +109,7 @@ class MovedBook:
 # --- rows that `books value --parts` left ---
 
 def without_name(path: str, name: str) -> Iterator[bytes]:
-    """The text of a part without the book's name before each line."""
+    """Yields the text of a part without the book's name before each line."""
     front = name.encode() + b","
     with opened(path) as file:
         while lines := file.readlines(AT_ONCE):
@@ -114,7 +118,7 @@ def without_name(path: str, name: str) -> Iterator[bytes]:
 
 
 def valuation_in_part(wanted: Wanted, on: str, measure: str) -> ColumnValuation | None:
-    """The valuation of a part, if one was given; it has to be the one that is asked for."""
+    """Returns the valuation of a part, or None if no part was given; it must be the valuation that is asked for."""
     if not wanted.part:
         return None
     path, told = wanted.part
@@ -167,7 +171,7 @@ def due_of(wanted: Wanted, day: str, within: str) -> Made:
 
 
 def flags_made(wanted: Wanted, late: str) -> Made:
-    """The flags after the opening position, if one is given."""
+    """Returns the flags after the opening position if there is one, and otherwise all flags."""
     book = columns_at(wanted.journal, wanted.last)
     return Made(book.count, [flag for flag in flags_of(book, int(late)) if flag.position > (wanted.first or 0)])
 

@@ -1,4 +1,4 @@
-"""What the program prints of a book, and the sum of it over many books: exactly, in whole cents."""
+"""Reads what the program prints of a book, and adds it up over many books, exactly and in whole cents."""
 from __future__ import annotations
 
 import os
@@ -7,25 +7,25 @@ from typing import IO, Callable, Sequence
 
 from life_tools.common.formats import Wrong, demand, measure_of, money, printed_cents
 
-# a printed line that is added up: where its numbers begin, and how they are read and written
+# a printed line to add up: ADDED says where its numbers begin, CENTS and COUNT how a number is read and written
 Line = list[str]
 CENTS: tuple[Callable[[str], int], Callable[[int], str]] = printed_cents, money
 COUNT: tuple[Callable[[str], int], Callable[[int], str]] = int, str
 ADDED = {"total": 1, "year": 2, "unvalued": 1, "balance": 2, "count": 1, "checkpoint": 1}
-# how the lines begin that aren't of a policy
+# the first fields of all lines other than those of policies
 KINDS = {b"0", *(kind.encode() for kind in ADDED), b"project"}
-# the line with which a text of each word ends
+# the first field of the last line of each command's output
 LAST = {"value": "total", "project": "unvalued", "state": "count", "checkpoint": "checkpoint"}
 
 
 def way_of(line: Line, place: int) -> tuple[Callable[[str], int], Callable[[int], str]]:
-    """How a field is read and written: a number of policies or commands stands at the end of some lines."""
+    """Returns how a field is read and written: at the end of some lines there is a number of policies or commands."""
     is_count = line[0] in ("unvalued", "count", "checkpoint") or line[0] == "total" and place == len(line) - 1
     return COUNT if is_count else CENTS
 
 
 def added(lines: Sequence[Line]) -> Line:
-    """The sum of lines of one kind."""
+    """Returns the sum of lines of the same kind."""
     first = lines[0]
     start = ADDED[first[0]]
     demand(all(len(line) == len(first) and line[:start] == first[:start] for line in lines), "lines of several kinds")
@@ -34,7 +34,7 @@ def added(lines: Sequence[Line]) -> Line:
 
 
 def head_of(word: str, line: Line) -> tuple[Line, int]:
-    """Of the first line: what has to be alike in all books, and the position."""
+    """Returns from the first line what must be the same for all books, and the position."""
     if word == "value":
         measure = measure_of(line)
         demand(measure, f"{','.join(line)} is no first line of a valuation")
@@ -45,7 +45,7 @@ def head_of(word: str, line: Line) -> tuple[Line, int]:
 
 @dataclass
 class Text:
-    """What of a book's text is added up: its first line, if that isn't; its head and position; and the lines."""
+    """What is added up of a book's text: its first line (None if that line is added up as well), head, position, and lines."""
 
     first: Line | None
     head: Line
@@ -53,14 +53,14 @@ class Text:
     lines: list[Line]
 
 
-# the lines of policies, of which there may be millions, begin so
+# the beginnings of the lines of policies, of which there may be millions
 POLICY_LINES = {"value": b"row,", "state": b"policy,"}
-# all lines but those of policies take less
+# all other lines together are shorter than this
 MOST_BYTES = 1 << 16
 
 
 def other_lines(word: str, file: IO[bytes]) -> list[Line]:
-    """The lines of a text but those of policies: the first, and the last ones."""
+    """Returns the lines of a text without those of policies: the first line, and the last ones."""
     file.seek(0)
     first = file.readline(MOST_BYTES)
     start = max(file.tell(), file.seek(0, os.SEEK_END) - MOST_BYTES)
@@ -71,7 +71,7 @@ def other_lines(word: str, file: IO[bytes]) -> list[Line]:
 
 
 def text_in(word: str, file: IO[bytes]) -> Text:
-    """What a text says, which has to have ended as it should."""
+    """Returns what a text has to add up, and raises Wrong unless it ends as it should."""
     lines = other_lines(word, file)
     last = lines[-1] if lines else []
     demand(last[:1] == [LAST[word]], f"it ended with {','.join(last) or 'nothing'}")
@@ -83,7 +83,7 @@ def text_in(word: str, file: IO[bytes]) -> Text:
 
 
 def total_of(texts: Sequence[Text]) -> list[Line]:
-    """The lines of all books together, where they are of one kind."""
+    """Returns the lines of all books together, and raises Wrong unless they are of the same kind."""
     demand(all(text.head == texts[0].head and len(text.lines) == len(texts[0].lines) for text in texts),
            "the books printed texts of several kinds")
     try:

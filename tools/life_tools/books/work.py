@@ -1,4 +1,4 @@
-"""What is asked of many books: a task for each, done here by the processors or on a cluster, and tried once more."""
+"""Does work on many books: a task for each, done on this machine or on a cluster, and tried once more if it fails."""
 from __future__ import annotations
 
 import os
@@ -21,14 +21,14 @@ from life_tools.journal.record_columns import columns_at, prefix_sum
 from life_tools.audit.samples import Sample
 from life_tools.journal.wholeness import doubt_of
 
-# the program's own status of a book that somebody has
+# the program's own status for a book that is in use
 DISK_FAULT = 8
 SECONDS_BETWEEN = 0.2
 
 
 @dataclass(frozen=True)
 class Asked:
-    """The words, the positions by name, how many processes, the scheduler, whether files are sent, and the parts."""
+    """The words, the positions by name, the number of processes, the scheduler, whether files are sent, and the parts."""
 
     words: tuple[str, ...]
     positions: dict[str, int]
@@ -37,12 +37,12 @@ class Asked:
     are_sent: bool = False
     parts: Parts | None = None
     are_rows_kept: bool = False
-    # how many seconds a book may be held by somebody else
+    # how many seconds to wait for a book that is in use
     wait: int = 0
-    # of a word of these tools: the opening positions, and by name the files of rows that were printed already, with their sums
+    # for commands of these tools: the opening positions by name, and by name the files of rows printed already, with checksums
     firsts: dict[str, int] = field(default_factory=dict)
     rows_in: dict[str, tuple[str, str]] = field(default_factory=dict)
-    # the bases of classes, and by name each book's part of a sample
+    # the bases of classes, and each book's part of a sample by name
     bases: tuple[Bases, ...] = ()
     drawn: dict[str, Sample] = field(default_factory=dict)
 
@@ -63,7 +63,7 @@ def largest_first(books: list[ListedBook]) -> list[ListedBook]:
 
 
 def task_here(asked: Asked, book: ListedBook) -> Task:
-    """A task of this machine, in the book's folder; where the word takes no position, on a copy."""
+    """Returns a task for this machine in the book's folder, or on a copy if the command takes no position."""
     at = asked.positions.get(book.name)
     is_copied = at is not None and asked.words[0] != "value" and not asked.is_own
     task = Task(book.name, book.folder, book.basis, asked.words, tuple(life_command()), at, is_copied=is_copied,
@@ -72,13 +72,13 @@ def task_here(asked: Asked, book: ListedBook) -> Task:
 
 
 def of_book(asked: Asked, task: Task) -> Task:
-    """A task with what is asked of its book by the words of these tools."""
+    """Returns a task with what the commands of these tools need for its book."""
     return replace(task, first=asked.firsts.get(task.name), rows_in=asked.rows_in.get(task.name), bases=asked.bases,
                    drawn=asked.drawn.get(task.name))
 
 
 def task_elsewhere(asked: Asked, book: ListedBook, program: str, program_sum: str) -> Task:
-    """A task of any machine, on a copy at a position."""
+    """Returns a task for any machine, on a copy at a position."""
     at = asked.positions.get(book.name)
     task = of_book(asked, Task(book.name, book.folder, book.basis, asked.words, (program,), at, True, program_sum,
                                parts=asked.parts))
@@ -91,7 +91,7 @@ def task_elsewhere(asked: Asked, book: ListedBook, program: str, program_sum: st
 
 
 def names_of_basis(asked: Asked, book: ListedBook) -> list[str]:
-    """The basis files and their tables, where the words need them."""
+    """Returns the names of the basis files and their tables if the command needs them."""
     if asked.words[0] not in ("value", "project", *OWN):
         return []
     names = [name for each in asked.bases for name in each.names] or [book.basis]
@@ -99,8 +99,10 @@ def names_of_basis(asked: Asked, book: ListedBook) -> list[str]:
 
 
 def held(asked: Asked, book: ListedBook) -> Outcome | None:
-    """What becomes of a book that somebody has, also after the seconds for which one waits: here as on a cluster, where a copy
-    could be taken of it."""
+    """Waits for a book that is in use, and returns the outcome if it still is after the permitted seconds, or else None.
+
+    This also holds on a cluster, although a copy could be taken of such a book.
+    """
     until = time.monotonic() + asked.wait
     while holder := holder_of(book.journal):
         if time.monotonic() >= until:
@@ -126,7 +128,7 @@ def made_elsewhere(asked: Asked, book: ListedBook, program: str, program_sum: st
 
 
 def seen_alike(asked: Asked, book: ListedBook, outcome: Outcome) -> Outcome:
-    """An outcome of a copy, where it was a copy of what this machine sees; else that it wasn't."""
+    """Returns the outcome of a copy if it was a copy of what this machine sees, and otherwise a failure that says it was not."""
     position = outcome.position
     if outcome.status or position is None or not outcome.sums:
         return outcome
@@ -165,7 +167,10 @@ def result_of(future: Future[Outcome], book: ListedBook) -> Outcome:
 
 
 def run_here(asked: Asked, books: list[ListedBook]) -> list[Outcome]:
-    """A run of the program is a process already; what these tools make themselves has one of its own."""
+    """Runs the books on this machine.
+
+    A run of the program is a process already; what these tools make themselves gets a process for each book.
+    """
     told, outcomes = Told(len(books)), []
     with (ProcessPoolExecutor if asked.is_own else ThreadPoolExecutor)(asked.processes) as pool:
         begun = {pool.submit(made_here, asked, book): book for book in largest_first(books)}
@@ -190,7 +195,7 @@ def run_elsewhere(asked: Asked, books: list[ListedBook], cluster: Cluster) -> li
 
 
 def twice(asked: Asked, books: list[ListedBook], run: Callable[[Asked, list[ListedBook]], list[Outcome]]) -> list[Outcome]:
-    """What became of each book, in the order of the list; one that failed is tried once more."""
+    """Returns the outcome for each book, in the order of the list; a book that failed is tried once more."""
     first = {outcome.name: outcome for outcome in run(asked, books)}
     again = [book for book in books if first[book.name].status]
     if again:
