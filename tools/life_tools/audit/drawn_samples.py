@@ -1,4 +1,4 @@
-"""How a sample is drawn of what the program prints: the rows of a valuation, and what each counts for."""
+"""Draws a sample from the rows of a valuation that the program prints, with the size for which each row counts."""
 from __future__ import annotations
 
 import datetime
@@ -17,7 +17,7 @@ from life_tools.audit.sampling import Draw, draw
 
 
 class Drawable(NamedTuple):
-    """What a valuation's first line states, its rows, what each counts for in cents, and how many have a word."""
+    """The first line of a valuation, its rows, the size of each in cents, and the number of rows with a word."""
 
     head: Head
     rows: Rows
@@ -34,7 +34,7 @@ class Drawn:
     words: int
 
     def told(self) -> list[str]:
-        """What is reported to a person beside the rows."""
+        """Returns the lines that are printed for a person besides the rows."""
         sample, drawn = self.sample, self.draw
         lines = [f"{len(sample.rows)} of {sample.policies} rows were drawn by {sample.by}, of {money(sample.total)} in "
                  f"all; the interval is {money(drawn.total // drawn.asked)}",
@@ -44,7 +44,7 @@ class Drawn:
 
 
 def drawable_of(valuation: ColumnValuation, policies: StatePolicies, by: str) -> Drawable:
-    """What each row counts for: its upper bound, or the amount that is insured on the day."""
+    """Returns the rows with their sizes: the upper bound, or by `amount` the amount that is insured on the day."""
     rows = valuation.rows
     sizes = rows.bounds[:, -1]
     if by == "amount":
@@ -59,7 +59,7 @@ def numbers_of(drawn: Draw, by: str) -> Numbers:
 
 def sample_of(folder: str, on: datetime.date, asked: int, seed: int, by: str, bases: Bases, position: int | None = None,
               measure: str = "terminal", life: str | None = None) -> Drawn:
-    """A sample of what the program prints of a folder's book at a position (the newest if none is given)."""
+    """Returns a sample of what the program prints of a folder's book at a position (the newest if none is given)."""
     demand(by in BY, f"{by} is none of {', '.join(BY)}")
     demand(measure in MEASURED, f"{measure} is none of {', '.join(MEASURED)}")
     valuation, both = read_both(folder, position, life, str(on), bases, measure)

@@ -1,7 +1,7 @@
-"""Postings that people should look at: what the rules took, and what is nevertheless rare or doubtful.
+"""Flags postings that people should look at: the rules accepted them, but they are rare or doubtful.
 
 - `soon-after-reinstatement`: a claim within a year of a reinstatement;
-- `on-last-day`: a claim on the very day of the policy's posting before it, such as of a death that was reported late;
+- `on-last-day`: a claim on the very day of the policy's previous posting, such as a death that was reported late;
 - `paid-at-once`: a claim that is settled to the cent on its own day;
 - `last-day-of-right`: a reinstatement on the last day on which it was possible;
 - `late-maturity`: a maturity long after the end of the term.
@@ -29,7 +29,7 @@ DAY = datetime.timedelta(1)
 
 
 class Flag(NamedTuple):
-    """A posting to look at: its flag, position, policy, kind, day and cents; the day that it is compared with, and why."""
+    """A posting to look at: its flag, position, policy, kind, day and cents; the day with which it is compared, and why."""
 
     flag: str
     position: int
@@ -42,13 +42,13 @@ class Flag(NamedTuple):
 
 
 def last_day_of_right(policy: Policy) -> datetime.date:
-    """The last day on which a lapsed policy can be reinstated."""
+    """Returns the last day on which a lapsed policy can be reinstated."""
     return min(anniversary(policy.issued, policy.paid + REINSTATEMENT_ANNIVERSARIES), end_of(policy) - DAY)
 
 
 @dataclass
 class Watch:
-    """The flags of a journal's postings, each of which is shown with its policy as it was and as it is."""
+    """Flags postings of a journal; each posting is shown to it with its policy before and after."""
 
     days_late: int = DAYS_LATE
     found: list[Flag] = field(default_factory=list)
@@ -97,7 +97,7 @@ class Watch:
 # --- a journal ---
 
 def days_before(book: Columns) -> Array:
-    """Of each posting the day of its policy's posting before it."""
+    """Returns for each posting the day of its policy's previous posting, or NEVER."""
     day, order = book.records.day, np.argsort(book.place, kind="stable")
     found = np.full(book.count, NEVER)
     follows = np.flatnonzero(np.diff(book.place[order]) == 0)
@@ -106,7 +106,7 @@ def days_before(book: Columns) -> Array:
 
 
 def doubtful_claims(book: Columns) -> Array:
-    """The places of claims on the day of the posting before them, or some year after a reinstatement."""
+    """Returns the places of claims on the day of the policy's previous posting, or about a year after a reinstatement."""
     day, place = book.records.day, book.place
     claims, reinstated = np.flatnonzero(book.records.kind == CLAIM), np.flatnonzero(book.records.kind == REINSTATE)
     newest = np.full(len(book.policies), FIRST - 2 * LONGEST_YEAR)
@@ -117,7 +117,7 @@ def doubtful_claims(book: Columns) -> Array:
 
 
 def doubtful_reinstatements(book: Columns) -> Array:
-    """The places of reinstatements on an anniversary or on the last day of the cover, as the last day of the right is."""
+    """Returns the places of reinstatements on an anniversary or on the last day of the cover, one of which the last day is."""
     found = np.flatnonzero(book.records.kind == REINSTATE)
     day, place = book.records.day[found], book.place[found]
     issued_on = book.policies.issued[place]
@@ -127,7 +127,10 @@ def doubtful_reinstatements(book: Columns) -> Array:
 
 
 def candidates(book: Columns, days_late: int) -> Array:
-    """The places of the policies of which a posting may be flagged: few, since each of their postings is looked at."""
+    """Returns the places of the policies that may have a flagged posting.
+
+    They are few, since each of their postings is examined.
+    """
     kind, day, place = book.records.kind, book.records.day, book.place
     claims, settled, matured = (np.flatnonzero(kind == code) for code in (CLAIM, SETTLE, MATURE))
     claimed = np.full(len(book.policies), NEVER)
@@ -140,7 +143,7 @@ def candidates(book: Columns, days_late: int) -> Array:
 
 
 def postings_of(book: Columns, policies: Array) -> Iterator[Array]:
-    """The places of the postings of each of these policies, which rise."""
+    """Yields for each of these policies the places of its postings in rising order."""
     is_one = np.zeros(len(book.policies) + 1, bool)
     is_one[policies] = True
     postings = np.flatnonzero(is_one[book.place])
@@ -150,7 +153,7 @@ def postings_of(book: Columns, policies: Array) -> Iterator[Array]:
 
 
 def flags_of(book: Columns, days_late: int = DAYS_LATE) -> list[Flag]:
-    """The flagged postings of a book, in their order."""
+    """Returns the flagged postings of a book, in their order."""
     watch, progress = Watch(days_late), Progress("looking at policies")
     for done, postings in enumerate(postings_of(book, candidates(book, days_late))):
         policy: Policy | None = None
@@ -165,5 +168,5 @@ def flags_of(book: Columns, days_late: int = DAYS_LATE) -> list[Flag]:
 
 
 def flags_at(path: str, at: int | None = None, days_late: int = DAYS_LATE) -> list[Flag]:
-    """The flagged postings of a journal's file, or of its first ones."""
+    """Returns the flagged postings of a journal's file, or of its first commands."""
     return flags_of(columns_at(path, at), days_late)

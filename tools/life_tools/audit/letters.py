@@ -1,4 +1,4 @@
-"""What a letter of confirmation says of each policy of a sample: a row a letter, and the letters as pages to print."""
+"""Makes letters of confirmation for the policies of a sample: a row for each letter, and the letters as pages to print."""
 from __future__ import annotations
 
 import datetime
@@ -42,10 +42,10 @@ td + td { text-align: right; font-variant-numeric: tabular-nums } .arrears { fon
 
 
 def insured_until(policy: Policy, on: datetime.date) -> str:
-    """The last day on which the policy is insured as its premiums stand on a day; nothing where it is insured no more.
+    """Returns the last day on which the policy is insured by the premiums paid up to a day, or "" if it is no longer insured.
 
-    A premium that is due and unpaid can be paid on the last day of grace, and no longer; the cover ends then, if it doesn't
-    end before.
+    A premium that is due and unpaid can be paid up to the last day of grace. The cover ends on that day if it does not end
+    before.
     """
     if policy.status not in ("inforce", "paidup"):
         return ""
@@ -54,7 +54,7 @@ def insured_until(policy: Policy, on: datetime.date) -> str:
 
 
 def row_of(policy: Policy, book: str, on: datetime.date, position: int) -> list[str]:
-    """The row of a letter; the last two fields are for the answer."""
+    """Returns the row of a letter; the last two fields are for the holder's reply."""
     is_paying = policy.status == "inforce"
     due = due_of(policy) if is_paying else None
     arrears = missed_by(policy, on) * policy.premium if is_paying else 0
@@ -66,7 +66,7 @@ def row_of(policy: Policy, book: str, on: datetime.date, position: int) -> list[
 
 
 def letters_of(sample: Sample, path: str, book: str) -> list[list[str]]:
-    """The rows of a sample's letters, by the journal at its position."""
+    """Returns the rows of a sample's letters, from the journal at the sample's position."""
     columns = columns_at(path, sample.position)
     place_of = {int(number): place for place, number in enumerate(columns.policies.number)}
     demand(len(place_of) == sample.policies, f"{path} has {len(place_of)} policies at position {sample.position}")
@@ -82,7 +82,7 @@ def letters_of(sample: Sample, path: str, book: str) -> list[list[str]]:
 # --- as pages ---
 
 def cover_in_words(told: Mapping[str, str]) -> str:
-    """Until when the policy is insured, as its holder reads it."""
+    """Returns how long the policy is insured, in words for its holder."""
     on, until = told["as of"], told["insured until"]
     if not until:
         return "no longer insured"
@@ -94,7 +94,7 @@ def cover_in_words(told: Mapping[str, str]) -> str:
 
 
 def lines_of(told: Mapping[str, str]) -> list[tuple[str, str]]:
-    """What the holder is asked to confirm: a name and what the book says."""
+    """Returns what the holder is asked to confirm: pairs of a name and what the book has."""
     found = [("Insurance", PLANS[told["plan"]]), ("Issued", f"{told['issued']}, at age {told['age at issue']}"),
              ("Standing", STATUSES[told["status"]]), ("Amount insured", apart(told["amount"]))]
     if told["premium a year"]:
@@ -111,7 +111,7 @@ def lines_of(told: Mapping[str, str]) -> list[tuple[str, str]]:
 
 
 def letter(row: Sequence[str]) -> list[str]:
-    """One letter, on a sheet of its own."""
+    """Returns the lines of one letter, which is printed on a sheet of its own."""
     told = dict(zip(HEADS, row))
     lines = "".join(f"<tr{' class=arrears' if name == UNPAID else ''}><td>{escape(name)}</td><td>{escape(says)}</td></tr>"
                     for name, says in lines_of(told))
@@ -125,6 +125,6 @@ def letter(row: Sequence[str]) -> list[str]:
 
 
 def letter_page(rows: Sequence[Sequence[str]], book: str, facts: Mapping[str, str]) -> str:
-    """The letters as one page to print, a sheet of paper each."""
+    """Returns the letters as one page, with each letter on its own sheet of paper."""
     parts = [line for row in rows for line in letter(row)]
     return whole_page(f"Letters of confirmation: {book}", STYLE, facts, parts)

@@ -1,7 +1,7 @@
-"""A sample of the valuations of many books as one, as text, and the part that each book has in it.
+"""Reads and writes a sample that is drawn from the valuations of many books together, as text with a part for each book.
 
     all,sample,BY,COUNT ASKED FOR,SEED,TOTAL IN CENTS,START,DAY,MEASURE
-    NAME,0,value,DAY,POSITION,POLICIES[,mean]       of each book; its drawn rows follow it
+    NAME,0,value,DAY,POSITION,POLICIES[,mean]       for each book; its drawn rows follow it
     NAME,row,..
 """
 from __future__ import annotations
@@ -14,12 +14,12 @@ from life_tools.common.formats import MEASURES, demand, read_whole
 from life_tools.audit.samples import (HEAD, MOST_SAMPLE_BYTES, Numbers, Sample, head_in, head_of, is_listed, is_sample,
                                       numbers_in, numbers_told, rows_in, sample_from, text_of_row)
 
-# each book's part by its name
+# the part of each book, by its name
 Parts = dict[str, Sample]
 
 
 def lines_of(parts: Parts) -> Iterator[str]:
-    """The text of a sample, which has a part of each book."""
+    """Yields the text of a sample that has a part for each book."""
     first = next(iter(parts.values()))
     yield ",".join([ALL, *numbers_told(first), str(first.on), first.measure])
     for name, part in parts.items():
@@ -28,7 +28,7 @@ def lines_of(parts: Parts) -> Iterator[str]:
 
 
 def parts_in(text: str) -> Parts:
-    """The parts of a text that `books LIST sample` printed; of which bases it is isn't given there."""
+    """Returns the parts of a text that `books LIST sample` printed; the text does not say which bases were used."""
     first, *lines = text.splitlines() or [""]
     fields = first.split(",")[1:]
     demand(not is_sample([line.split(",") for line in (first, *lines[:1])]), "it is a sample of one book: audit papers and "
@@ -45,7 +45,7 @@ def parts_in(text: str) -> Parts:
 
 
 def blocks_in(lines: list[str]) -> dict[str, list[str]]:
-    """The lines of each book, which stand one after the other, without its name."""
+    """Returns the lines of each book without its name; the lines of one book follow one another."""
     blocks: dict[str, list[str]] = {}
     for line in lines:
         name, _, rest = line.partition(",")

@@ -1,4 +1,4 @@
-"""The papers of a sample as one page of HTML to print: first what was drawn and how, then a sheet for each policy."""
+"""Makes the papers of a sample one page of HTML to print: first what was drawn and how, then a sheet for each policy."""
 from __future__ import annotations
 
 from fractions import Fraction
@@ -48,7 +48,7 @@ def verdict(paper: Paper) -> str:
 
 
 def book_facts(papers: Papers) -> list[tuple[str, str]]:
-    """The books and their positions."""
+    """Returns the facts about the books and their positions."""
     if len(papers.books) == 1:
         [book] = papers.books
         return [("book", book.book), ("position", apart(str(book.sample.position)))]
@@ -76,7 +76,7 @@ def seals(papers: Papers) -> list[str]:
 
 
 def contents(papers: Papers) -> str:
-    """A row for each drawn policy; of several books the book comes first."""
+    """Returns a table with a row for each drawn policy; if there is more than one book, its first column has the book."""
     are_many = len(papers.books) > 1
     rows = [[*([book.book] * are_many), str(it.policy.number), money(it.size), chance_text(it.chance),
              *([it.row.word, ""] if it.row.word else map(money, it.row.bounds)), verdict(it)]
@@ -89,13 +89,13 @@ def contents(papers: Papers) -> str:
 
 
 def postings_text(paper: Paper) -> str:
-    """Each posting after its position."""
+    """Returns the lines of a policy's postings, each with its position before it."""
     width = len(apart(str(paper.postings[-1][0])))
     return "\n".join(f"{apart(str(position)):>{width}}  {line}" for position, line in paper.postings)
 
 
 def sheet(paper: Paper, book: BookPapers) -> list[str]:
-    """The sheet of a policy, which says of itself what it is of."""
+    """Returns the sheet of a policy, which states the book and the policy."""
     policy, sample = paper.policy, book.sample
     right = "" if paper.is_right else "<p class=\"wrong\">The printed row isn't what was worked out.</p>"
     is_of = f"{book.book} on {sample.on} at position {sample.position:,}; {sample.by} {money(paper.size)}"
@@ -108,7 +108,7 @@ def sheet(paper: Paper, book: BookPapers) -> list[str]:
 
 
 def page(papers: Papers) -> str:
-    """The whole page, which needs no network."""
+    """Returns the whole page, which needs no network."""
     at = f" at position {papers.sample.position}" if len(papers.books) == 1 else ""
     title = f"Audit papers: {papers.title} on {papers.sample.on}{at}"
     parts = [*cover_of(papers), signed()]

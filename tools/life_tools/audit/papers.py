@@ -1,4 +1,4 @@
-"""The papers of a sample, book by book: each drawn policy with its worked row, its postings and its basis row."""
+"""Makes the papers of a sample, book by book: each drawn policy with its worked row, its postings and its basis row."""
 from __future__ import annotations
 
 import os
@@ -33,12 +33,12 @@ from life_tools.reserves.worked_rows import Worked
 
 
 class NotTheSample(Wrong):
-    """A sample isn't what its seed draws of the book."""
+    """A sample is not what its seed draws from the book."""
 
 
 @dataclass(frozen=True)
 class Paper:
-    """Of one policy: its printed row, its size and chance, the worked lines, whether they agree, its postings, its basis row."""
+    """The paper of one policy: its printed row, size and chance, the worked lines and whether they agree, postings, basis row."""
 
     policy: Policy
     row: ValuedRow
@@ -60,7 +60,7 @@ class BookPapers(NamedTuple):
 
 
 class Sheets(NamedTuple):
-    """A book's papers; what each of its rows counts for, and the places of the drawn ones, to draw them once more."""
+    """A book's papers, the size of each of its rows, and the places of the drawn rows, for drawing them once more."""
 
     of: BookPapers
     sizes: Cents
@@ -74,7 +74,7 @@ class Papers:
     title: str
     draw: Draw
     books: list[BookPapers]
-    # what the papers say of the program that printed the rows
+    # what the papers state about the program that printed the rows
     program: dict[str, str]
 
     @property
@@ -91,7 +91,7 @@ class Papers:
 
 
 def postings_in(book: Columns, number: int) -> list[tuple[int, str]]:
-    """A policy's postings with their positions, as lines of a script."""
+    """Returns a policy's postings as lines of a script, each with its position."""
     places = book.records.places_of(number)
     return [(int(place) + 1, ",".join(words_of(command))) for place, command in zip(places, book.records.commands(places))]
 
@@ -116,7 +116,7 @@ def paper_of(policy: Policy, row: ValuedRow, size: int, sample: Sample, rows: Ba
 # --- one book ---
 
 def passing(parts: Iterable[bytes], numbers: set[int], found: dict[int, Policy]) -> Iterator[bytes]:
-    """A state as it is printed; the policies of these numbers are taken from it on the way."""
+    """Yields a state as it is printed, and adds the policies of these numbers to `found`."""
     begins = {b"policy,%d" % number for number in numbers}
     for block in blocks_of(parts):
         for line in block.splitlines():
@@ -127,7 +127,7 @@ def passing(parts: Iterable[bytes], numbers: set[int], found: dict[int, Policy])
 
 
 def printed_in(copy: BookAt, sample: Sample, bases: Bases) -> tuple[Drawable, dict[int, Policy]]:
-    """What can be drawn from, and the sampled policies, as the program prints them of a copy."""
+    """Returns what can be drawn from and the sampled policies, as the program prints them from a copy."""
     policies: dict[int, Policy] = {}
     valuation = valued_columns(copy, str(sample.on), bases, sample.measure)
     state = state_of(passing(copy.streams("state"), {row.number for row in sample.rows}, policies))
@@ -136,7 +136,7 @@ def printed_in(copy: BookAt, sample: Sample, bases: Bases) -> tuple[Drawable, di
 
 
 def places_of(sample: Sample, of: Drawable, name: str) -> list[int]:
-    """The places of a sample's rows, which have to be those that are printed now."""
+    """Returns the places of a sample's rows, and raises NotTheSample unless the same rows are printed now."""
     found = np.flatnonzero(np.isin(of.rows.number, [row.number for row in sample.rows])).tolist()
     if len(of.rows) != sample.policies or tuple(map(of.rows.row, found)) != sample.rows:
         raise NotTheSample(f"{name} has other rows at position {sample.position} than the sample")
@@ -145,7 +145,7 @@ def places_of(sample: Sample, of: Drawable, name: str) -> list[int]:
 
 
 def sheets_of(sample: Sample, folder: str, name: str, bases: Bases, life: str | None = None) -> Sheets:
-    """The papers of a book's part of a sample."""
+    """Returns the papers of a book's part of a sample."""
     with book_at(folder, sample.position, bases.names, life) as copy:
         of, policies = printed_in(copy, sample, bases)
         rows, book = BasisRows(copy.folder, bases), columns_at(os.path.join(copy.folder, JOURNAL))
@@ -164,7 +164,7 @@ def sheets_of(sample: Sample, folder: str, name: str, bases: Bases, life: str | 
 # --- all books ---
 
 def together(title: str, books: Sequence[Sheets], program: dict[str, str]) -> Papers:
-    """The papers of all books of a sample, which is drawn once more: it must come to the same rows."""
+    """Returns the papers of all books of a sample; it is drawn once more, and must give the same rows."""
     sample = books[0].of.sample
     drawn = draw(np.concatenate([book.sizes for book in books]), sample.asked, sample.seed)
     begins = np.cumsum([0, *(len(book.sizes) for book in books)]).tolist()
@@ -175,7 +175,7 @@ def together(title: str, books: Sequence[Sheets], program: dict[str, str]) -> Pa
 
 
 def papers_of(sample: Sample, folder: str, bases: Bases, life: str | None = None, title: str | None = None) -> Papers:
-    """The papers of a sample of one folder's book, which is named by a title or by its folder."""
+    """Returns the papers of a sample of one folder's book, named by the title or else by the folder."""
     told, wanted = ", ".join(bases.names), ", ".join(sample.bases)
     demand(bases.names == sample.bases, f"the sample is of {wanted}, and not of {told}")
     name = book_name(folder, title)

@@ -1,8 +1,8 @@
-"""A sample of a book's valuation: what was drawn of which rows, as text that `check-values`, papers and letters take.
+"""Reads and writes a sample of a book's valuation as text, which `check-values`, papers and letters take.
 
-Its first line is the valuation's own, with all policies of the position; then come
+The first line is that of the valuation, with the number of all policies at the position; then come
 
-    sample,BY,COUNT ASKED FOR,SEED,TOTAL IN CENTS,START,BASIS[,BASIS ..]     of classes the basis of each
+    sample,BY,COUNT ASKED FOR,SEED,TOTAL IN CENTS,START,BASIS[,BASIS ..]     with classes, the basis of each
     row,..                                                                  the drawn rows, as they were printed
 """
 from __future__ import annotations
@@ -23,13 +23,14 @@ MOST_TOTAL = 10**18
 MOST_DRAWN = 10**6
 MOST_SEED = 2**63 - 1
 BOUNDS = 2
-# the fields of a line `sample` before the bases
+# the number of fields of a line `sample` before the bases
 HEAD = 6
 
 
 @dataclass(frozen=True)
 class Sample:
-    """The drawn rows of a valuation, by what they were drawn, and the draw's numbers; `policies` is how many there were."""
+    """The drawn rows of a valuation, by what they were drawn, and the numbers of the draw; `policies` is the number of all
+    rows."""
 
     on: datetime.date
     position: int
@@ -50,13 +51,13 @@ def text_of_row(row: ValuedRow) -> str:
 
 
 def head_of(sample: Sample) -> str:
-    """The first line of the valuation."""
+    """Returns the first line of the valuation."""
     measure = [] if sample.measure == MEASURED[0] else [sample.measure]
     return ",".join(["0", "value", str(sample.on), str(sample.position), str(sample.policies), *measure])
 
 
 def numbers_told(sample: Sample) -> list[str]:
-    """The first fields of the line `sample`."""
+    """Returns the first fields of the line `sample`."""
     return ["sample", sample.by, *map(str, (sample.asked, sample.seed, sample.total, sample.start))]
 
 
@@ -66,12 +67,12 @@ def text_of(sample: Sample) -> str:
 
 
 def is_sample(rows: Sequence[Sequence[str]]) -> bool:
-    """Whether printed lines, as fields, are those of a sample."""
+    """Returns whether printed lines, split into fields, are those of a sample."""
     return len(rows) > 1 and rows[1][0] == "sample"
 
 
 def is_listed(line: str) -> bool:
-    """Whether a first line is that of a sample of many books."""
+    """Returns whether a first line is that of a sample of many books."""
     return line.split(",")[:2] == [ALL, "sample"]
 
 
@@ -94,7 +95,7 @@ def head_in(line: str) -> Head:
 
 
 class Numbers(NamedTuple):
-    """By what was drawn, how many rows were asked for, the seed, the total in cents and the start."""
+    """By what was drawn, how many rows were asked for, the seed, the total in cents, and the start."""
 
     by: str
     asked: int
@@ -118,7 +119,7 @@ def seed_in(text: str) -> int:
 
 
 def numbers_in(fields: Sequence[str]) -> Numbers:
-    """Those of a line `sample`, by its first fields."""
+    """Returns the numbers of a line `sample` from its first fields."""
     is_one = len(fields) == HEAD and fields[0] == "sample" and fields[1] in BY
     demand(is_one, f"{','.join(fields)} is no line of a sample")
     total, start = (number_of(text, 0, MOST_TOTAL) for text in fields[4:])
@@ -128,7 +129,7 @@ def numbers_in(fields: Sequence[str]) -> Numbers:
 
 
 def rows_in(lines: Sequence[str], policies: int) -> tuple[ValuedRow, ...]:
-    """The rows of a book's sample, each policy once."""
+    """Returns the rows of a book's sample, which must have each policy once."""
     rows = tuple(row_of(line, BOUNDS) for line in lines)
     demand(len({row.number for row in rows}) == len(rows) <= policies, "a sample has each of its policies once")
     return rows
@@ -140,7 +141,7 @@ def sample_from(head: Head, bases: tuple[str, ...], of: Numbers, rows: tuple[Val
 
 
 def sample_in(text: str) -> Sample:
-    """The sample of a text that `audit sample` wrote."""
+    """Returns the sample of a text that `audit sample` wrote."""
     lines = text.splitlines()
     first, told = [*lines[:2], "", ""][:2]
     demand(not is_listed(first), "it is a sample of a list: books LIST papers and books LIST letters take it")

@@ -1,9 +1,9 @@
-"""A monetary unit sample: each row is drawn with a chance in proportion to its size, the same rows for the same seed.
+"""Draws a monetary unit sample: each row's chance is in proportion to its size, and the same seed draws the same rows.
 
-The rows' sizes, in cents, lie one after the other on a line. Points lie on it at equal intervals, the total over the wished
-count, from a random start on; a row is drawn where a point lies in it. So its chance is its size over the interval, and a row
-of at least the interval is drawn for certain, once. To stay within whole numbers all lengths are multiplied by the count: the
-interval is then the total itself, and the start one of as many numbers.
+The rows are laid end to end on a line, each as long as its size in cents. Points lie on the line at equal intervals of the total
+over the wanted count, from a random start on, and a row is drawn if a point lies in it. So a row's chance is its size over the
+interval, and a row of at least the interval is drawn for certain, once. To keep all lengths whole, they are multiplied by the
+count: the interval is then the total itself, and the start is a number below the total.
 """
 from __future__ import annotations
 
@@ -17,7 +17,10 @@ from life_tools.audit.samples import MOST_DRAWN
 
 
 class Draw(NamedTuple):
-    """The drawn rows by their places; what was asked; the sum of the sizes in cents; the start, in cents times the count."""
+    """The places of the drawn rows, what was asked, the sum of the sizes in cents, and the start in cents times the count.
+
+    `certain` is the number of rows that are drawn for certain, `nothing` the number of rows of size 0.
+    """
 
     places: list[int]
     asked: int
@@ -33,7 +36,7 @@ class Draw(NamedTuple):
 
 
 def start_of(seed: int, total: int) -> int:
-    """A number below the total, by the SHA-256 of the seed's digits, so that anybody can find it again."""
+    """Returns a number below the total from the SHA-256 of the seed's digits, so that anybody can compute it again."""
     return int.from_bytes(hashlib.sha256(str(seed).encode()).digest(), "big") % total
 
 
@@ -42,16 +45,16 @@ def chance_of(size: int, total: int, asked: int) -> Fraction:
 
 
 def draw_at(sizes: Cents | Sequence[int], asked: int, total: int, start: int) -> list[int]:
-    """The places of the rows in which a point lies."""
+    """Returns the places of the rows in which a point lies."""
     ends = np.cumsum(sizes, dtype=np.int64)
-    # a length in whole cents lies after a point where it lies after the point's whole cents
+    # for a length in whole cents, only the whole cents of a point decide which side it is on
     points = np.array([(start + place * total) // asked for place in range(asked)], np.int64)
     found: list[int] = np.unique(np.searchsorted(ends, points, "right")).tolist()
     return found
 
 
 def draw(sizes: Cents | Sequence[int], asked: int, seed: int) -> Draw:
-    """A sample of rows of these sizes, which mustn't be negative."""
+    """Draws a sample from rows of these sizes, none of which may be negative."""
     of = np.asarray(sizes, np.int64)
     total = int(of.sum())
     demand(1 <= asked <= MOST_DRAWN, f"a sample has 1 to {MOST_DRAWN} rows")
