@@ -1,4 +1,4 @@
-"""Reserves by valuation basis: table, interest, method and years of issue, with the minimum's excess beside them."""
+"""Makes the sheet of reserves by valuation basis: table, interest, method and years of issue, with the deficiency."""
 from __future__ import annotations
 
 from life_tools.common.arrays import Array, np
@@ -23,13 +23,13 @@ def percent(points: int) -> str:
 
 
 def key_of(it: PlacedRow, is_paid_up: bool, measure: str) -> Key:
-    """What a policy of a basis row is valued by."""
+    """Returns by what a policy of a basis row is valued."""
     method = (PAID_UP_METHODS if is_paid_up else METHODS)[measure]
     return it.row.name, percent(it.row.points), method, str(it.row.day), f"before {it.until}" if it.until else ""
 
 
 def sums_by(codes: Array, columns: list[Array]) -> dict[int, list[int]]:
-    """For each code that occurs how many there are, and the sums of the columns."""
+    """Returns for each code that occurs the number of policies, and the sums of the columns."""
     found, code = np.unique(codes, return_inverse=True)
     counts = np.bincount(code, minlength=len(found)).tolist()
     sums = zip(counts, *(added(code, len(found), column) for column in columns))
@@ -41,9 +41,9 @@ def put(sums: dict[Key, list[int]], key: Key, more: list[int]) -> None:
 
 
 def sums_by_basis(period: Period, moment: Moment, minimum: ColumnValuation) -> tuple[dict[Key, list[int]], dict[Key, list[int]]]:
-    """The sums of those that are valued, and of those that have no value."""
+    """Returns the sums for policies that have a value, and for those that have none."""
     of, rows, least = moment.policies, moment.valuation.rows, minimum.rows
-    # one that is issued later has bounds of 0, though the basis may have no row for it
+    # a policy that is issued after the day has bounds of 0, though the basis may have no row for it
     has_row = (rows.word == 0) & (period.row > 0)
     valued, without = is_insured(of) & has_row, is_insured(of) & ~has_row
     columns = [of.amount, rows.bounds[:, 0], rows.bounds[:, 1], least.bounds[:, 3] - least.bounds[:, 1]]
@@ -61,7 +61,7 @@ def sums_by_basis(period: Period, moment: Moment, minimum: ColumnValuation) -> t
 
 
 def demand_printed(moment: Moment, minimum: ColumnValuation, total: list[int], without: int) -> None:
-    """Demands that the sums are the program's own."""
+    """Raises NotWhole unless the sums are those that the program printed."""
     printed = [*moment.valuation.total[:2], minimum.total[3] - minimum.total[1]]
     demand_whole(total[2:] == printed, f"reserves: the sums are {total[2:]} cents, and {printed} are printed")
     demand_whole(without == moment.valuation.words == minimum.words,
@@ -69,7 +69,7 @@ def demand_printed(moment: Moment, minimum: ColumnValuation, total: list[int], w
 
 
 def deficiency_notes(period: Period, minimum: ColumnValuation) -> list[str]:
-    """What the deficiency compares, and a warning where the minimum of a policy is above its reserve."""
+    """Returns notes on what the deficiency compares, and a warning if any policy's minimum reserve is above its reserve."""
     notes = ["Deficiency: what the minimum reserve has more than the terminal one, in upper bounds."]
     if period.asked.measure == "mean":
         notes.append("The minimum reserve is a terminal one, so the deficiency isn't compared with the mean reserves beside it.")

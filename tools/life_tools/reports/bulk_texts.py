@@ -1,4 +1,4 @@
-"""Rows of CSV of many whole numbers and amounts at once: digits as columns of bytes, of which those that count are written."""
+"""Writes many rows of whole numbers and amounts as CSV at once: the digits are columns of bytes, of which some are left out."""
 from __future__ import annotations
 
 from typing import Sequence
@@ -6,12 +6,12 @@ from typing import Sequence
 from life_tools.common.arrays import Array, Cents, np
 
 ZERO, MINUS, POINT, COMMA, LINE_END = (np.uint8(ord(letter)) for letter in "0-.,\n")
-# an amount has at least a digit before its point, and two after it
+# an amount has at least one digit before its point, and two after it
 LEAST = 3
 
 
 class Letters:
-    """Columns of letters side by side, a row for each line, and which of them are written."""
+    """Columns of letters with a row for each line, and which of the letters are written."""
 
     def __init__(self, rows: int) -> None:
         self.rows = rows
@@ -23,7 +23,7 @@ class Letters:
         self.written.append(written)
 
     def add_letter(self, letter: np.uint8, written: Array | None = None) -> None:
-        """The same letter in each row, or in those that are named."""
+        """Adds the same letter to each row, or to the rows for which `written` is true."""
         where = np.ones((self.rows, 1), bool) if written is None else written[:, None]
         self.add(np.full((self.rows, 1), letter, np.uint8), where)
 
@@ -38,21 +38,22 @@ class Letters:
         self.add(letters[:, -2:], written[:, -2:])
 
     def add_texts(self, texts: Sequence[str], places: Array) -> None:
-        """One of a few texts of ASCII letters in each row."""
+        """Adds to each row one of a few texts of ASCII letters."""
         widest = max(map(len, texts))
         table = np.array([list(text.encode("ascii").ljust(widest)) for text in texts], np.uint8).reshape(len(texts), widest)
         lengths = np.array([len(text) for text in texts])
         self.add(table[places], np.arange(widest) < lengths[places][:, None])
 
     def text(self) -> bytes:
-        """The rows, with a line's end each."""
+        """Returns the rows as text, each with a line end."""
         self.add_letter(LINE_END)
         made: bytes = np.concatenate(self.letters, axis=1)[np.concatenate(self.written, axis=1)].tobytes()
         return made
 
 
 def digits_of(numbers: Array, least: int) -> tuple[Array, Array]:
-    """The decimal digits of numbers from 0 on, and which of them are written: none of the zeros before the last `least`."""
+    """Returns the decimal digits of numbers from 0 on, and which are written: leading zeros are not, except in the last
+    `least`."""
     width = max(len(str(int(numbers.max(initial=0)))), least)
     letters, left = np.empty((len(numbers), width), np.uint8), numbers
     for place in range(width - 1, -1, -1):

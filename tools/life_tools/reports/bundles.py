@@ -1,5 +1,7 @@
-"""A valuation to hand over, as one page that needs no network: its sheets and charts, sampled rows worked out with their
-postings, the seal, and how to check all of it without us."""
+"""Makes a valuation to hand over, as one page that needs no network.
+
+It has the sheets and charts, sampled rows worked out with their postings, the seal, and how to check all of it without us.
+"""
 from __future__ import annotations
 
 from html import escape
@@ -15,7 +17,7 @@ from life_tools.reports.whole_pages import fact_list, whole_page
 from life_tools.valuations.groups import Groups, Sums
 from life_tools.valuations.printed_columns import ColumnValuation
 
-# a chart of more groups can't be read; of issue years the last ones are shown
+# a chart with more groups cannot be read; if there are more, the last ones are shown, such as the latest years of issue
 MOST_GROUPS = 24
 CHARTS = """
 svg.chart { display: block; width: 100%; max-width: 46rem; height: auto } svg.chart text { font-size: 13px; fill: #57606a }
@@ -30,7 +32,7 @@ code { overflow-wrap: anywhere } li { margin: .4rem 0 }
 
 
 def chart_of(keys: Sequence[str], groups: Groups) -> str:
-    """The amounts insured and the reserves of the groups, side by side."""
+    """Returns a chart of the amounts insured and the reserves of the groups, side by side."""
     some = list(groups.items())[-MOST_GROUPS:]
     axes = charts.Axes(", ".join(keys), [", ".join(name) for name, _ in some], "amount")
     series = [charts.Series("amount insured", "c2", [sums.amount for _, sums in some]),
@@ -49,7 +51,7 @@ def sheets(tables: Tables, total: Sums, columns: Sequence[str]) -> list[str]:
 
 
 def sampled(papers: Papers | None) -> list[str]:
-    """The sampled rows, each worked out beside the printed one."""
+    """Returns the sampled rows, each worked out beside the printed one."""
     if papers is None:
         return ["<h2>Sampled rows</h2><p>Every row has a reserve of 0, so none was drawn.</p>"]
     sample = papers.sample
@@ -65,7 +67,7 @@ def sampled(papers: Papers | None) -> list[str]:
 
 
 def checks_of(valuation: ColumnValuation, told: Mapping[str, str], papers: Papers | None, bases: Sequence[str]) -> list[str]:
-    """What anybody does with the book and this page, and what has to come out."""
+    """Returns the commands with which anybody can check the page against the book, and what each has to print."""
     at, on, basis = valuation.position, valuation.on, f" --basis {bases[0]}"
     measure = "" if valuation.measure == "terminal" else f" --{valuation.measure}"
     steps = [("The journal up to this position", f"head -c {17 + 65 * at} journal.life | sha256sum",
@@ -88,7 +90,7 @@ def checks_of(valuation: ColumnValuation, told: Mapping[str, str], papers: Paper
 
 def bundle(title: str, told: Mapping[str, str], valuation: ColumnValuation, total: Sums, tables: Tables, heads: Sequence[str],
            papers: Papers | None, bases: Sequence[str]) -> str:
-    """The whole page."""
+    """Returns the whole page."""
     seal = [] if papers is None else ["<h2>Seal</h2>", f"<pre>{escape(text_of(papers.books[0].seal))}</pre>"]
     columns = ["policies", "insured", "amount insured", *heads, "words"]
     parts = [fact_list(told), "<p>Amounts in the journal's currency. The exact reserve lies between the lower and the upper "

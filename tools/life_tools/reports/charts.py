@@ -1,7 +1,8 @@
-"""Charts as SVG within a page: columns by months or years, a divided bar, a gauge, a waterfall. Colours are the style sheet's.
+"""Draws charts as SVG for a page: columns by months or years, a divided bar, a gauge, a waterfall; the style sheet has the
+colours.
 
-Each has a title, what its axes are, a legend, and a text for those who don't see it; a mark may lead to the list behind it. The
-numbers are given as they stand in the table behind the chart, and nothing is worked out here but places.
+Each chart has a title, the names of its axes, a legend, and a text for people who cannot see it; a mark may be a link to the list
+behind it. The numbers are those of the table behind the chart, and only places are computed here.
 """
 from __future__ import annotations
 
@@ -14,15 +15,15 @@ from life_tools.reports.report_pages import apart, money
 
 WIDTH, HEIGHT = 720, 320
 LEFT, RIGHT, TOP, BOTTOM = 96, 12, 14, 52
-# the steps of an axis are one of these times a power of ten, some four of them
+# an axis has about STEPS steps, and a step is one of ROUND times a power of ten
 ROUND, STEPS = (1, 2, 5, 10), 4
-# how wide a letter of a label is, at the most
+# the greatest width of a letter of a label
 LETTER = 8
 COUNTED = Unit(1, "")
 
 
 def step_of(most: int) -> int:
-    """A round step of which some four make the most."""
+    """Returns a round step, of which about four make up `most`."""
     step = 1
     while True:
         for each in ROUND:
@@ -33,7 +34,8 @@ def step_of(most: int) -> int:
 
 @dataclass(frozen=True)
 class Series:
-    """A row of values of one name, with the class of its colour; of each value the address of what is behind it."""
+    """A series of values with its name and the class of its colour; `links` has for each value the address of what is behind
+    it."""
 
     name: str
     colour: str
@@ -43,7 +45,7 @@ class Series:
 
 @dataclass(frozen=True)
 class Axes:
-    """What the axes are: the labels across with what they are called, and whether the values are cents or counts."""
+    """The labels on the horizontal axis and its name, the name of the vertical axis, and whether values are cents or counts."""
 
     across: str
     labels: Sequence[str]
@@ -51,13 +53,16 @@ class Axes:
     is_money: bool = True
 
 
-# where what moved is less than this part of the values, an axis begins above 0
+# if the changes are less than this part of the values, the axis begins above 0
 LITTLE = 0.4
 
 
 @dataclass
 class Scale:
-    """Places of values, from the lowest round step to the highest; from 0, unless what moves would be too small to be seen."""
+    """The vertical axis, which goes from the lowest round step to the highest.
+
+    It begins at 0, unless `is_cut` is set and the changes would be too small to be seen.
+    """
 
     values: Sequence[int]
     is_money: bool
@@ -66,7 +71,7 @@ class Scale:
     low: int = field(init=False)
     high: int = field(init=False)
     unit: Unit = field(init=False)
-    # the value from which columns rise
+    # the value at which columns begin
     foot: int = field(init=False)
 
     def __post_init__(self) -> None:
@@ -86,7 +91,7 @@ class Scale:
         return range(self.low, self.high + 1, self.step)
 
     def told(self, value: int) -> str:
-        """A value as it stands at a tick."""
+        """Returns a value as the label of its tick."""
         if not self.is_money:
             return f"{value:,}"
         said = apart(self.unit.told(abs(value)))
@@ -111,13 +116,13 @@ def rect(x: float, y: float, width: float, height: float, kind: str, says: str) 
 
 
 def legend(series: Sequence[tuple[str, str, str]]) -> str:
-    """The names of the colours, above or below the chart; of each its address, where it leads somewhere."""
+    """Returns the names of the colours as a list; a name is a link if it has an address."""
     names = "".join(f'<li class="{colour}">{linked(escape(name), link)}</li>' for name, colour, link in series)
     return f'<ul class="legend">{names}</ul>'
 
 
 def frame(axes: Axes, scale: Scale) -> list[str]:
-    """The lines of the values, with their amounts, and the names of both axes."""
+    """Returns the grid lines with their amounts, and the names of both axes."""
     parts = []
     for value in scale.ticks():
         y = scale.at(value)
@@ -133,7 +138,7 @@ def frame(axes: Axes, scale: Scale) -> list[str]:
 
 
 def labels_of(labels: Sequence[str]) -> list[str]:
-    """As many labels as stand side by side; where the page is narrow each second one is left out."""
+    """Returns as many labels as fit side by side; on a narrow page the style sheet hides every second one."""
     widest = max(map(len, labels), default=1) * LETTER + 14
     every = max(-(-int(len(labels) * widest) // (WIDTH - LEFT - RIGHT)), 1)
     parts = []
@@ -149,13 +154,13 @@ def middle_of(at: int, count: int) -> float:
 
 
 def svg(says: str, parts: Sequence[str], height: int = HEIGHT) -> str:
-    """A chart, with what it says for those who don't see it."""
+    """Returns a chart, with a text for people who cannot see it."""
     return "\n".join([f'<svg class="chart" viewBox="0 0 {WIDTH} {height}" role="img" aria-label="{escape(says)}">', *parts,
                       "</svg>"])
 
 
 def columns(says: str, axes: Axes, series: Sequence[Series], are_stacked: bool = False) -> str:
-    """Columns side by side at each label, or one upon the other; a value that isn't known yet has none."""
+    """Returns a chart of columns at each label, side by side or stacked; a value that is not known yet has no column."""
     count = len(axes.labels)
     sums = [sum(each.values[at] or 0 for each in series) for at in range(count)] if are_stacked else []
     scale = Scale([*(value or 0 for each in series for value in each.values), *sums], axes.is_money)
@@ -183,7 +188,7 @@ BAR_TOP, BAR_HEIGHT = 8, 40
 
 
 def divided(says: str, parts: Sequence[tuple[str, int, str, str]], is_money: bool = False) -> str:
-    """One bar of several parts: of each its name, its value, the class of its colour, and the address of what is behind it."""
+    """Returns one bar of several parts; each part has a name, a value, the class of its colour, and the address behind it."""
     whole = sum(value for _, value, _, _ in parts)
     marks, names, x = [], [], 0.0
     for name, value, colour, link in parts:
@@ -196,7 +201,7 @@ def divided(says: str, parts: Sequence[tuple[str, int, str, str]], is_money: boo
 
 
 def gauge(says: str, value: int, most: int, link: str, told: Callable[[int], str]) -> str:
-    """How much of the most is used."""
+    """Returns a bar that shows how much of `most` is used."""
     wide = WIDTH * value / most
     kinds = {0: "start", STEPS: "left"}
     ticks = [text(WIDTH * part / STEPS, BAR_TOP + BAR_HEIGHT + 20, told(most * part // STEPS),
@@ -208,7 +213,7 @@ def gauge(says: str, value: int, most: int, link: str, told: Callable[[int], str
 # --- from an opening to a closing value ---
 
 def waterfall(says: str, axes: Axes, opening: int, moves: Sequence[int], closing: int, links: Sequence[str]) -> str:
-    """An opening value, what was added to it or taken from it line by line, and the closing one to which it comes."""
+    """Returns a waterfall: an opening value, what was added or taken line by line, and the closing value that results."""
     count = len(moves) + 2
     levels = [opening]
     for move in moves:
@@ -236,7 +241,7 @@ TILT = 100
 
 
 def tilted(axes: Axes, scale: Scale) -> list[str]:
-    """The frame of a waterfall, whose labels are words and stand at a slant."""
+    """Returns the frame of a waterfall, whose labels are words and are drawn at a slant."""
     bare = Axes("", [], axes.up, axes.is_money)
     parts = frame(bare, scale)
     parts.append(text((LEFT + WIDTH - RIGHT) / 2, HEIGHT + TILT - 10, axes.across, "middle axis"))

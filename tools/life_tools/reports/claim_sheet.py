@@ -1,4 +1,4 @@
-"""Claims and maturities: outstanding at the beginning, reported, settled, outstanding at the end, and these by their age."""
+"""Makes the sheet of claims and maturities: outstanding at the beginning, reported, settled, outstanding at the end by age."""
 from __future__ import annotations
 
 from typing import Iterator
@@ -15,7 +15,7 @@ from life_tools.reports.posted_steps import Steps
 from life_tools.reports.sheets import COUNT, TEXT, Column, Sheet
 
 BEGINNING, REPORTED, SETTLED, END = LINES = ("outstanding at the beginning", "reported", "settled", "outstanding at the end")
-# how many days after the report a sum is outstanding, at most, and how that is called
+# the upper limits of the classes of age, in days since the report, and their names
 AGES = ((-1, "reported after the day"), (30, "up to 30 days"), (90, "31 to 90 days"), (365, "91 to 365 days"),
         (10**6, "more than 365 days"))
 CLAIM, MATURITY = "claimed", "matured"
@@ -24,7 +24,7 @@ KINDS = ("claim", "mature")
 
 
 class Claims:
-    """Takes the postings: of each line and kind the number, the amount and the postings."""
+    """Takes the postings, and keeps for each line and status the number and the amount; it also counts the payments."""
 
     def __init__(self) -> None:
         self.parts = {(line, status): [0, 0] for line in (*LINES, *(name for _, name in AGES)) for status in CODES}
@@ -52,7 +52,7 @@ class Claims:
             self.put(line, status, int(np.count_nonzero(mine)), int(of.outstanding[mine].sum()))
 
     def take_ages(self, of: Policies, days: Array) -> None:
-        """What is outstanding, by the days since the report."""
+        """Adds what is outstanding to the lines by age; `days` are the days since the report."""
         ages = np.searchsorted([most for most, _ in AGES], days)
         for status, code in CODES.items():
             mine = of.status == code
@@ -69,7 +69,7 @@ class Claims:
 
 
 def reported_on(period: Period, places: Array) -> Array:
-    """The days of the claims or the maturities of some policies of the closing, of which something is outstanding."""
+    """Returns the days of the claims or maturities of policies at the closing that have something outstanding."""
     found = np.full(len(period.closing.policies), NEVER)
     reports = np.flatnonzero(np.isin(period.records.kind, (kinds.CLAIM, kinds.MATURE)))
     found[period.place[reports]] = period.records.day[reports]
@@ -81,7 +81,7 @@ def reported_on(period: Period, places: Array) -> Array:
 
 
 def outstanding(moment: Moment) -> Array:
-    """The places of the policies of which something is outstanding."""
+    """Returns the places of the policies that have something outstanding."""
     of = moment.policies
     owed, payable = int(of.outstanding.sum()), -moment.balances["payable"]
     said = f"claims: {money(owed)} is outstanding on {moment.on}, and the account payable has {money(payable)}"
@@ -90,7 +90,7 @@ def outstanding(moment: Moment) -> Array:
 
 
 def demand_accounts(period: Period, claims: Claims) -> None:
-    """Demands that the accounts moved by what was reported and settled."""
+    """Raises NotWhole unless the accounts moved by what was reported and settled."""
     before, after = period.opening.balances, period.closing.balances
     incurred = after["incurred"] - before["incurred"]
     demand_whole(claims.sum_of(REPORTED, 1) == incurred, f"claims: the account incurred moved by {money(incurred)}")

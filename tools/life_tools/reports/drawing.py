@@ -1,4 +1,4 @@
-"""Plain drawings as SVG: lines over days or years, and bars."""
+"""Draws plain SVG pictures: lines over days or years, and bars."""
 from __future__ import annotations
 
 import datetime
@@ -21,7 +21,7 @@ def line(x1: float, y1: float, x2: float, y2: float, color: str) -> str:
 
 
 def framed(title: str, parts: Sequence[str], height: int = HEIGHT) -> str:
-    """A whole drawing with its title."""
+    """Returns a whole drawing with its title."""
     head = (f'<svg xmlns="http://www.w3.org/2000/svg" width="{WIDTH}" height="{height}" viewBox="0 0 {WIDTH} {height}" '
             'font-family="sans-serif" font-size="12">')
     ground = f'<rect width="{WIDTH}" height="{height}" fill="white"/>'
@@ -29,18 +29,18 @@ def framed(title: str, parts: Sequence[str], height: int = HEIGHT) -> str:
 
 
 class Unit(NamedTuple):
-    """The unit in which amounts are shown: so many cents, and what a title says of it."""
+    """The unit in which amounts are shown: how many cents it is, and its name for a title."""
 
     cents: int
     words: str
 
     def told(self, cents: int) -> str:
-        """An amount, rounded to the nearest of two places."""
+        """Returns an amount in this unit, rounded to two places."""
         return money((cents * 100 + self.cents // 2) // self.cents)
 
 
 def unit_for(most: int) -> Unit:
-    """The unit by the greatest amount, which is at least ten of it."""
+    """Returns the largest unit of which the greatest amount is at least ten."""
     return next((unit for unit in UNITS if most >= 10 * unit.cents), WHOLE)
 
 
@@ -48,7 +48,7 @@ WHOLE, UNITS = Unit(100, ""), (Unit(10**8, ", in millions"), Unit(10**5, ", in t
 
 
 def grid(most: int, unit: Unit) -> list[str]:
-    """Five lines of equal amounts, from 0 to the most, with their amounts."""
+    """Returns five lines at equal steps from 0 to `most`, with their amounts."""
     parts = []
     for step in range(5):
         y = place(most * step // 4, most)
@@ -58,17 +58,17 @@ def grid(most: int, unit: Unit) -> list[str]:
 
 
 def place(cents: int, most: int) -> float:
-    """The height of an amount in a drawing of amounts from 0 to the most."""
+    """Returns the vertical place of an amount in a drawing of amounts from 0 to `most`."""
     return HEIGHT - BOTTOM - (HEIGHT - TOP - BOTTOM) * cents / max(most, 1)
 
 
-# a series: its name, and its points: how far across, and an amount in cents
+# a series: its name and its points, each with a horizontal place and an amount in cents
 Series = Tuple[str, Sequence[Tuple[int, int]]]
 DaySeries = Tuple[str, List[Tuple[datetime.date, int]]]
 
 
 def lines_over(title: str, series: Sequence[Series], name_of: Callable[[int], str]) -> str:
-    """Each series as a line with a dot for each point, its name at the right; below are the names of the two ends."""
+    """Draws each series as a line with a dot for each point and its name at the right; the two ends of the axis are named."""
     places = sorted({at for _, points in series for at, _ in points})
     most = max(cents for _, points in series for _, cents in points)
     whole = max(places[-1] - places[0], 1)
@@ -95,7 +95,7 @@ def lines_over_days(title: str, series: Sequence[DaySeries]) -> str:
 
 
 def bars(title: str, rows: Sequence[tuple[str, int]]) -> str:
-    """A bar for each row, from 0 on, with its name and its amount."""
+    """Draws a bar from 0 on for each row, with its name and its amount."""
     most = max(cents for _, cents in rows)
     unit = unit_for(most)
     parts = []

@@ -1,4 +1,4 @@
-"""The exhibit of life insurance: number and amount in force at the beginning, what came and went, and in force at the end."""
+"""Makes the exhibit of life insurance: number and amount in force at the beginning, what came and went, in force at the end."""
 from __future__ import annotations
 
 from life_tools.common.arrays import Array, Cents, np
@@ -18,18 +18,18 @@ BEGINNING, ISSUED, REVIVED, DECREASED, MADE_PAID_UP, DEATH, MATURITY, EXPIRY, LA
     "in force at the end")
 LINE_OF = {"issue": ISSUED, "reinstate": REVIVED, "alter": DECREASED, "paidup": MADE_PAID_UP, "claim": DEATH,
            "mature": MATURITY, "lapse": LAPSE}
-# of each plan's code the place of its group
+# for the code of each plan, the place of its group
 GROUP_OF = np.array([0] + [GROUPS.index(plan) for plan in PLAN_CODES], np.uint8)
 Pair = tuple[int, int]
 
 
 def groups_of(of: Policies) -> Array:
-    """The place of each policy's group."""
+    """Returns the place of each policy's group."""
     return np.where(of.status == MADE_PAIDUP, GROUPS.index(PAID_UP), GROUP_OF[of.plan])
 
 
 def in_force(of: Policies) -> dict[str, Pair]:
-    """Number and amount of each group."""
+    """Returns the number and the amount in force of each group."""
     insured = is_insured(of)
     return sums_by_group(groups_of(of)[insured], of.amount[insured])
 
@@ -40,7 +40,7 @@ def sums_by_group(groups: Array, amounts: Cents) -> dict[str, Pair]:
 
 
 class LifeExhibit:
-    """Takes the postings."""
+    """Takes the postings, and adds them to the lines of the exhibit."""
 
     def __init__(self) -> None:
         self.parts = {(line, group): [0, 0] for line in LINES for group in GROUPS}
@@ -52,12 +52,13 @@ class LifeExhibit:
         part[1] += amount
 
     def put_each(self, line: str, groups: Array, sign: int, amounts: Cents) -> None:
-        """Puts so many policies into each group, or takes them out, or, by 0, only changes its amount."""
+        """Adds the policies to their groups if `sign` is 1, takes them out if it is -1, and changes only the amounts if it is
+        0."""
         for group, (count, amount) in sums_by_group(groups, amounts).items():
             self.put(line, group, sign * count, amount)
 
     def take(self, steps: Steps) -> None:
-        """A command counts once, on its own line."""
+        """Adds each command to its own line; a command counts only once."""
         line = LINE_OF.get(steps.kind)
         if line is None:
             return
@@ -82,7 +83,7 @@ class LifeExhibit:
             self.put_each(line, groups, -1, -before.amount)
 
     def demand_balanced(self, opening: dict[str, Pair], closing: dict[str, Pair]) -> None:
-        """Demands that what was in force and what came and went is what the program prints at the end."""
+        """Raises NotWhole unless the opening and what came and went make up what the program printed at the closing."""
         for group in GROUPS:
             for place, what in enumerate(("number", "amount")):
                 moved = sum(self.parts[line, group][place] for line in LINES)
@@ -95,7 +96,7 @@ class LifeExhibit:
 
 
 def remarks(moment: Moment) -> list[str]:
-    """Policies that are in force by their status alone, each under the first of these that holds of it."""
+    """Returns remarks on policies that are in force only by their status; each is counted under the first remark that applies."""
     of, insured = moment.policies, is_insured(moment.policies)
     later, ended = of.issued > moment.day, of.end <= moment.day
     past = ~is_in_grace(of, np.full(len(of), moment.day, np.int32))

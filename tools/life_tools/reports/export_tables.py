@@ -1,4 +1,4 @@
-"""The tables of a journal: their columns, and their rows without an object a command."""
+"""Makes the tables of a journal, their columns and rows, without an object for each command."""
 from __future__ import annotations
 
 import itertools
@@ -50,12 +50,16 @@ def booking_rows(book: Columns) -> Iterator[TableRow]:
 # --- policies ---
 
 def policy_rows(book: Columns) -> Iterator[TableRow]:
-    """In order of issue. A premium is next due of a policy in force alone; paid up or in full it is paid to its end."""
+    """Yields the policies in order of issue.
+
+    Only a policy in force has a next due day; a paid-up policy, or one whose premiums are all paid, is paid to the end of its
+    cover.
+    """
     for start in range(0, len(book.policies), AT_ONCE):
         of = book.policies.at(slice(start, start + AT_ONCE))
         due, is_paid = of.due, of.due == NEVER
         is_awaited = (of.status == INFORCE) & ~is_paid
-        # whoever awaits none has a day there that isn't looked at
+        # a policy with no premium to come gets some day here, which is not used
         next_due = np.where(is_awaited, due, of.end)
         awaited = [(day, grace) if each else (None, None)
                    for each, day, grace in zip(is_awaited.tolist(), texts_at(next_due), texts_at(next_due + GRACE.days))]

@@ -1,8 +1,9 @@
-"""The increase in reserves: from the opening by net premiums, interest, cost of insurance, releases and changes to the closing.
+"""Makes the sheet of the increase in reserves, from the opening to the closing.
 
-Each policy's way is followed year by year and posting by posting, by the arithmetic that `why` shows. A posting of a day
-after the closing one counts on that day; one of a policy that the opening book has, of a day before the opening one, on
-this one. What is insured is added up by case and year before it is multiplied by what 1 is worth there, which is exact.
+Its lines are net premiums, interest, cost of insurance, releases and changes. Each policy is followed year by year and posting by
+posting, by the formulas that `why` shows. A posting dated after the closing day counts on the closing day; a posting dated before
+the opening day, if its policy is in the opening book, counts on the opening day. Amounts insured are added up by case and year
+before they are multiplied by what 1 is worth there; this is exact.
 """
 from __future__ import annotations
 
@@ -28,19 +29,19 @@ WORKED = (*GROWN, *JUMPS)
 LINES = (OPENING, *WORKED, ROUNDING, CLOSING)
 RELEASED = {"claim": DEATH, "lapse": LAPSE, "mature": MATURITY}
 CHANGED = {"alter": DECREASED, "paidup": PAID_UP}
-# what years add to a policy has one weight for four lines
+# what years add to a policy is weighed once for four lines
 GROWTH = "growth"
-# a printed row holds an exact value within the last of thirty decimals of 1
+# an exact value may be outside its printed row by this many units of the last of thirty decimals of 1
 SLACK = 1000
 
 
 def grown_by(units: Units) -> tuple[tuple[list[int], int], ...]:
-    """What years have added to 1, for each of the four lines, and whether it counts up or down."""
+    """Returns what years have added to 1 for each of the four lines, and whether the line counts up or down."""
     return (units.premiums, 1), (units.interest, 1), (units.cost, -1), (units.held, 1)
 
 
 class Rows:
-    """Policies of a moment whose exact reserves have to lie in their printed rows, by their case."""
+    """The policies at a moment, by their case; their exact reserves must be in their printed rows."""
 
     def __init__(self, moment: Moment, place: Array, case: Array, year: Array, amount: Cents) -> None:
         order = np.argsort(case, kind="stable")
@@ -49,7 +50,7 @@ class Rows:
         self.exact = 0
 
     def price(self, case: int, units: Units) -> None:
-        """Adds up the exact reserves of a case, and looks for them in the rows."""
+        """Adds up the exact reserves of a case, and compares each with its printed row."""
         rows = self.moment.valuation.rows
         for some in blocks_of(np.arange(*np.searchsorted(self.case, (case, case + 1)))):
             place = self.place[some]
@@ -68,7 +69,7 @@ class Rows:
 
 
 class Event(NamedTuple):
-    """What some policies' ways had: the line, their places, the index of case and year, the one before or -1, and amounts."""
+    """One step of some policies: the line, their places, the index of case and year, the index before or -1, and the amounts."""
 
     line: str
     place: Array
@@ -78,7 +79,7 @@ class Event(NamedTuple):
 
 
 class Parts:
-    """Each policy's own sums, in the order of the lines, of those that have any."""
+    """The sums of each policy that has any, in the order of the lines."""
 
     def __init__(self, events: list[Event], policies: int) -> None:
         self.sums: Array = np.zeros((policies, len(WORKED)), object)
@@ -89,7 +90,7 @@ class Parts:
         self.columns = [column[order] for column in columns]
 
     def price(self, first: int, units: Units) -> None:
-        """Of the case whose years begin at an index."""
+        """Adds the events of the case whose years begin at index `first`."""
         for some in blocks_of(np.arange(*np.searchsorted(self.columns[2], (first, first + len(units.reserve))))):
             for line, place, reached, since, amount in zip(*(column[some].tolist() for column in self.columns)):
                 if line >= 0:
@@ -109,14 +110,14 @@ class Parts:
 
 
 class Increase:
-    """Takes the opening book, the postings, and the closing book; then it is priced case by case."""
+    """Takes the opening book, the postings and the closing book; afterwards `price` is called for each case."""
 
     def __init__(self, period: Period, cases: Cases) -> None:
         self.period, self.terms = period, cases
         self.on2 = period.closing.day
         of, count = period.closing.policies, len(period.closing.policies)
         self.issued = of.issued
-        # of each policy that is on its way the case, the year, and what is insured; of the others the case is -1
+        # for each policy that is being followed, its case, year and amount insured; the case of the others is -1
         self.case, self.year, self.amount = np.full(count, -1, np.int32), np.zeros(count, np.int16), np.zeros(count, np.int64)
         # the index at which the years of each case begin
         self.firsts = np.append(0, np.cumsum(np.repeat(cases.years.astype(np.int64) + 1, 2)))
@@ -132,7 +133,10 @@ class Increase:
     # --- policies' ways ---
 
     def add(self, line: str, place: Array, sign: int, since: Array | None = None) -> None:
-        """Weighs what is insured where the policies are, and, where years were gone through, takes it from the year before."""
+        """Adds the amounts insured of the policies to the weights at their case and year, times the sign.
+
+        If `since` is given, the same amounts are taken away at that earlier year.
+        """
         case, amount = self.case[place], sign * self.amount[place]
         first = self.firsts[case]
         np.add.at(self.weights[line], first + self.year[place], amount)
@@ -144,11 +148,11 @@ class Increase:
             self.events.append(Event(line, place, first + self.year[place], before, amount))
 
     def years_on(self, place: Array, day: Array) -> Array:
-        """The years of the policies on days, as far as their cover goes."""
+        """Returns the policy years on these days, at most the years of the cover."""
         return np.minimum(completed_years(self.issued[place], day), self.terms.years[self.case[place] // 2])
 
     def go_on(self, place: Array, day: Array) -> Array:
-        """Those of the policies that are on their way; it goes up to the days, but not after the closing one."""
+        """Carries the policies that are being followed up to their days, at most to the closing day, and returns their places."""
         is_there = self.case[place] >= 0
         place, since = place[is_there], self.year[place[is_there]]
         year = np.maximum(since, self.years_on(place, np.minimum(day[is_there], self.on2)))
@@ -158,7 +162,7 @@ class Increase:
         return place
 
     def begin(self, place: Array, of: Policies) -> Array:
-        """Begins the ways of policies at year 0, and gives those that have a value."""
+        """Begins to follow policies at year 0, and returns the places of those that have a value."""
         case = 2 * self.terms.of[place] + (of.status == MADE_PAIDUP)
         is_valued = self.terms.years[case // 2] >= 0
         place = place[is_valued]
@@ -167,7 +171,10 @@ class Increase:
         return place
 
     def begin_new(self, place: Array, of: Policies) -> None:
-        """Those that are issued; what is paid up already, though its issue is of a later day, is so from the beginning."""
+        """Begins to follow policies that are issued.
+
+        A policy that is paid up already, although its issue is dated later, counts as paid up from the beginning.
+        """
         is_there = of.issued <= self.on2
         place = self.begin(place[is_there], of.at(is_there))
         is_paid_up = self.case[place] % 2 == 1
@@ -189,7 +196,8 @@ class Increase:
         return rows
 
     def rows_of(self, moment: Moment, place: Array) -> Rows:
-        """The policies of a moment with a value, which those are that have bounds in their rows."""
+        """Returns the rows of the policies that have a value, and raises NotWhole unless these are the ones printed with
+        bounds."""
         is_valued, word = self.case[place] >= 0, moment.valuation.rows.word[place]
         other = np.flatnonzero(is_valued == (word > 0))
         if len(other):
@@ -232,7 +240,7 @@ class Increase:
         self.count(REVIVED, place, 1)
 
     def change(self, line: str, steps: Steps) -> None:
-        """Takes what was held before, and counts what is held then."""
+        """Takes away the reserve before the change, and adds the reserve after it."""
         is_there = self.case[steps.place] >= 0
         place = self.go_on(steps.place, steps.day)
         self.add(line, place, -1)
@@ -244,7 +252,7 @@ class Increase:
     # --- the closing book ---
 
     def close(self) -> None:
-        """Carries all on to the closing day."""
+        """Carries all policies on to the closing day."""
         moment = self.period.closing
         place = np.flatnonzero(is_insured(moment.policies) & (moment.policies.issued <= self.on2))
         self.go_on(place, np.full(len(place), self.on2))
@@ -259,11 +267,11 @@ class Increase:
 
     @property
     def cases(self) -> Array:
-        """Those of which the units are wanted."""
+        """Returns the cases whose units are needed."""
         return np.flatnonzero(self.is_wanted)
 
     def price(self, case: int, units: Units) -> None:
-        """What a case adds to the lines."""
+        """Adds what a case contributes to the lines."""
         assert self.closing
         self.opening.price(case, units)
         self.closing.price(case, units)
@@ -280,7 +288,8 @@ class Increase:
             self.parts.price(first, units)
 
     def demand_led(self) -> None:
-        """Demands that the exact reserves lie in the rows, and that the lines lead from the opening ones to the closing."""
+        """Raises NotWhole unless the exact reserves are in the printed rows, and the lines lead from the opening to the
+        closing."""
         assert self.closing
         self.opening.demand_held()
         self.closing.demand_held()
@@ -290,8 +299,10 @@ class Increase:
 
 
 class Led(NamedTuple):
-    """What leads from the opening of one book, or of several, to the closing: the printed totals, the exact sums and the
-    counts of the lines, and how wide the rows' bounds are at both ends."""
+    """What leads from the opening of one or more books to the closing.
+
+    It has the printed totals, the exact sums and the counts of the lines, and the widths of the rows' bounds at both ends.
+    """
 
     measure: str
     opening: tuple[int, ...]
@@ -314,7 +325,7 @@ def led_by(period: Period, increase: Increase) -> Led:
 
 
 def led_together(books: Sequence[Led]) -> Led:
-    """What leads all books from their openings to their closings."""
+    """Returns what leads all books together from their openings to their closings."""
     def sums(pairs: Sequence[tuple[int, ...]]) -> tuple[int, ...]:
         return tuple(map(sum, zip(*pairs)))
 
@@ -325,7 +336,7 @@ def led_together(books: Sequence[Led]) -> Led:
 
 
 def lines_sheet(led: Led) -> Sheet:
-    """The sheet of what leads from the opening to the closing, each exact sum rounded once."""
+    """Returns the sheet of the lines from the opening to the closing; each exact sum is rounded once."""
     columns = [Column("line", TEXT), Column("policies", COUNT), *BY_BOUNDS]
     sheet = Sheet("increase", f"Increase in reserves, {led.measure}", columns, exact=led)
     lines = {line: cents(scaled) for line, scaled in led.sums.items()}
@@ -357,12 +368,12 @@ def increase_sheet(period: Period, increase: Increase) -> Sheet:
 
 
 def increases_added(sheets: Sequence[Sheet]) -> Sheet:
-    """Such sheets of several books as one."""
+    """Returns one sheet for the increase sheets of several books."""
     return lines_sheet(led_together([sheet.exact for sheet in sheets]))
 
 
 def policy_rows(period: Period, parts: Parts) -> Iterator[list[str]]:
-    """Each policy's part: its printed bounds, and between them what was worked out."""
+    """Yields each policy's part: its printed bounds, and between them the computed lines."""
     numbers, closing = period.closing.policies.number, period.closing.valuation.rows.bounds
     opening = np.zeros((len(numbers), 2), np.int64)
     opening[:len(period.opening.policies)] = period.opening.valuation.rows.bounds[:, :2]

@@ -1,9 +1,9 @@
-"""What moved between two valuations: each policy's change, put on one line of the analysis, adding up exactly.
+"""Analyses the change between two valuations: each policy's change is put on one line, and the lines add up exactly.
 
-Four valuations of the program carry it: the opening one, the later book on the opening day, the later book on the closing
-day, and the same by another basis. From each to the next something alone changes: what was posted, the time, the basis.
-So the lines add up to the closing reserve, in the lower bounds and in the upper ones: each is an analysis of its own, and
-what stands between opening and closing is how a sum changed, which bounds no exact change.
+The analysis rests on four valuations by the program: the opening one, the later book on the opening day, the later book on the
+closing day, and the same by another basis. From each one to the next only one thing changes: the postings, the time, or the
+basis. So the lines add up to the closing reserve, both in the lower bounds and in the upper bounds: each is an analysis of its
+own. A line between opening and closing shows how a sum of bounds changed; it is not a bound of an exact change.
 """
 from __future__ import annotations
 
@@ -17,21 +17,24 @@ from life_tools.journal.records import PREMIUM, REINSTATE, SETTLE, Records
 from life_tools.valuations.printed_columns import ColumnValuation
 from life_tools.journal.replays import places_of
 
-# the lines of the analysis, in order
+# the lines of the analysis, in their order
 OPENING, CLOSING = "opening reserve", "closing reserve"
 ISSUES, TIME, BASIS = "new issues", "time gone by", "change of basis"
 BY_KIND = {"claim": "claims", "settle": "settlements", "mature": "maturities", "lapse": "lapses", "reinstate": "reinstatements",
            "alter": "alterations", "paidup": "made paid up"}
 LINES = (OPENING, ISSUES, *BY_KIND.values(), TIME, BASIS, CLOSING)
-# of a kind of posting the place of its line, and 0 of those that have none
+# for the code of each kind of posting, the place of its line, or 0 if it has none
 LINE_OF = np.array([LINES.index(BY_KIND[kind]) if kind in BY_KIND else 0 for kind in ("", *CODES)], np.uint8)
 Pair = tuple[int, int]
 
 
 @dataclass(frozen=True)
 class Changes:
-    """Policies in order of issue: the place of the line of their postings, or 0; and in cents, by lower and by upper bounds,
-    the opening and the closing, and what postings, the time and the basis changed."""
+    """Policies in order of issue, each with the place of the line for its postings, or 0.
+
+    All amounts are pairs of cents, by lower and by upper bounds: the opening, the closing, and what postings, time and basis
+    changed.
+    """
 
     number: Array
     line: Array
@@ -46,17 +49,20 @@ class Changes:
 
 
 def lines_by_policy(records: Records, numbers: Array) -> Array:
-    """For each policy the line of its last posting that isn't a premium; a part settlement counts where nothing else does."""
+    """Returns for each policy the line of its last posting that is not a premium.
+
+    A settlement counts only if there is no other such posting.
+    """
     lines, place = LINE_OF[records.kind], places_of(records.number, numbers)
     found, counts, settled = np.zeros(len(numbers), np.uint8), (lines > 0) & (place >= 0), records.kind == SETTLE
     for chosen in (counts & settled, counts & ~settled):
-        # of equal places the last that is written stays
+        # of equal places the last assignment stays
         found[place[chosen]] = lines[chosen]
     return found
 
 
 def bounds_of(valuation: ColumnValuation) -> Cents:
-    """The bounds of what a valuation is for: by `deficiency` those of the minimum reserve, which follow the others."""
+    """Returns the bounds that matter for the measure: by `deficiency`, those of the minimum reserve, which follow the others."""
     return valuation.rows.bounds[:, -2:]
 
 
@@ -67,7 +73,7 @@ def pair_of(cents: Cents) -> Pair:
 
 def changes_of(opening: ColumnValuation, later_book: ColumnValuation, later_day: ColumnValuation, closing: ColumnValuation,
                records: Records) -> Changes:
-    """The change of each policy of the later book, of which those of the earlier one come first, in the same order."""
+    """Returns the change of each policy of the later book, which begins with the earlier book's policies in the same order."""
     before, booked, aged, after = map(bounds_of, (opening, later_book, later_day, closing))
     numbers, known = closing.rows.number, len(before)
     same = np.array_equal(opening.rows.number, numbers[:known])
@@ -84,7 +90,8 @@ def changes_of(opening: ColumnValuation, later_book: ColumnValuation, later_day:
 
 
 class Moved(NamedTuple):
-    """A line of the analysis: its policies, and the sums of lower and of upper bounds, or their changes, in cents."""
+    """A line of the analysis: the number of policies, and the sums of the lower and of the upper bounds, or their changes, in
+    cents."""
 
     name: str
     policies: int
@@ -92,13 +99,13 @@ class Moved(NamedTuple):
 
 
 def moved_by(name: str, cents: Cents, is_counted: Array | None = None) -> Moved:
-    """A line of so many policies as are counted, or as were changed."""
+    """Returns a line whose count is the number of policies that are counted, or that changed."""
     counted = cents.any(axis=1) if is_counted is None else is_counted
     return Moved(name, int(np.count_nonzero(counted)), pair_of(cents[counted].sum(axis=0, dtype=np.int64)))
 
 
 def analysis(changes: Changes, opening: ColumnValuation, closing: ColumnValuation) -> list[Moved]:
-    """All lines; the opening reserve and what moved make the closing one, as the program printed both."""
+    """Returns all lines, and raises Wrong unless they lead from the printed opening reserve to the printed closing reserve."""
     lines = [moved_by(OPENING, changes.opening, changes.line != LINES.index(ISSUES))]
     lines += [moved_by(name, changes.posted, changes.line == place) for place, name in enumerate(LINES[1:-3], 1)]
     lines += [moved_by(TIME, changes.time), moved_by(BASIS, changes.basis)]
@@ -116,7 +123,7 @@ def demand_adds_up(lines: list[Moved], opening: ColumnValuation, closing: Column
 
 
 class Cash(NamedTuple):
-    """What came in and went out between the positions, in cents: premiums, of which reinstatements, and settlements."""
+    """The money that came in and went out between the positions, in cents: premiums with reinstatements, and settlements."""
 
     premiums: int
     settlements: int
@@ -128,7 +135,7 @@ def cash_of(records: Records) -> Cash:
 
 
 def demand_booked(cash: Cash, before: dict[str, int], after: dict[str, int]) -> None:
-    """Demands that the balances that the program printed at both positions moved by just this."""
+    """Raises Wrong unless the balances that the program printed at both positions moved by exactly this."""
     moved = {account: after[account] - before[account] for account in after}
     said = f"the accounts moved by {moved} cents, and the postings make {cash}"
     demand(-moved["premiums"] == cash.premiums and moved["cash"] == cash.premiums - cash.settlements, said)

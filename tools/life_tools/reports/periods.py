@@ -1,4 +1,5 @@
-"""Two moments of a book and what was posted between them: what the program printed at both, and the journal up to the second."""
+"""Reads two moments of a book and what was posted between them: the program's output at both, and the journal up to the
+second."""
 from __future__ import annotations
 
 import datetime
@@ -21,7 +22,7 @@ from life_tools.journal.replays import places_of
 
 
 class NotWhole(Wrong):
-    """What was added up isn't what the program printed."""
+    """What was added up is not what the program printed."""
 
 
 def demand_whole(right: object, message: str) -> None:
@@ -30,8 +31,10 @@ def demand_whole(right: object, message: str) -> None:
 
 
 class Asked(NamedTuple):
-    """A book, two days with a position each, the bases, the measure of its reserves, the program; and whether each policy's
-    part of the sheets is kept."""
+    """A book, two days with a position each, the bases, the measure of the reserves, and the program.
+
+    `are_parts_kept` says whether each policy's part of the sheets is kept.
+    """
 
     folder: str
     on1: datetime.date
@@ -42,18 +45,17 @@ class Asked(NamedTuple):
     measure: str = "terminal"
     life: str | None = None
     are_parts_kept: bool = False
-    # why it is by this measure, as a person asked for it
+    # why this measure is used, as the person asked for it, or ""
     why: str = ""
 
     def reserves(self) -> str:
-        """The measure as the first line of a statement names it."""
+        """Returns the measure as the first line of a statement names it."""
         return f"{self.measure} reserves{f', {self.why}' if self.why else ''}"
 
 
 @dataclass(frozen=True)
 class Moment:
-    """A day and a position: the policies and balances, and the valuation by the measure; at the closing also the one by
-    `deficiency`."""
+    """A day and a position: the policies and balances, and the valuation by the measure; at the closing also by `deficiency`."""
 
     on: datetime.date
     position: int
@@ -69,10 +71,10 @@ class Moment:
 
 @dataclass(frozen=True)
 class Period:
-    """Both moments; the records up to the second one, and the place of the policy of each; and the basis rows, with the place
-    of each policy's own from 1, or 0.
+    """Both moments, the records up to the second with the place of each record's policy, and the basis rows.
 
-    The policies of the journal stand in the order of their issue, as they are printed, so those of the opening come first.
+    `row` has the number of each policy's own basis row, from 1, or 0. The policies are in order of issue in the journal and in
+    what is printed, so those of the opening come first.
     """
 
     asked: Asked
@@ -87,7 +89,7 @@ class Period:
 # --- reading ---
 
 class Watched:
-    """A copy of a book that counts how often it was asked."""
+    """A copy of a book that shows how often it was asked."""
 
     def __init__(self, copy: BookAt, progress: Progress) -> None:
         self.copy, self.progress, self.done = copy, progress, 0
@@ -102,7 +104,7 @@ class Watched:
 def moment(copy: Watched, on: datetime.date, asked: Asked, is_closing: bool) -> Moment:
     state = whole_state_of(copy.streams("state"))
     minimum = valued_columns(copy, str(on), asked.bases, "deficiency") if is_closing else None
-    # which has the terminal reserve before the minimum
+    # which has the terminal reserve before the minimum reserve
     valuation = minimum if minimum and asked.measure == "terminal" else valued_columns(copy, str(on), asked.bases, asked.measure)
     demand(valuation.position == state.count, f"the valuation is of position {valuation.position}, the state of {state.count}")
     rows, policies = valuation.rows, state.policies
@@ -112,20 +114,20 @@ def moment(copy: Watched, on: datetime.date, asked: Asked, is_closing: bool) -> 
 
 
 def demand_issued(moment: Moment, issued: Array) -> None:
-    """Demands that the printed policies are those that the journal issues, in their order."""
+    """Raises NotWhole unless the printed policies are those that the journal issues, in the same order."""
     printed = moment.policies.number
     demand_whole(len(printed) == len(issued), f"the postings leave {len(issued)} policies, and {len(printed)} are printed")
     demand_carried(printed, printed == issued)
 
 
 def demand_carried(printed: Array, same: Array) -> None:
-    """Demands that each policy is the same, of these numbers."""
+    """Raises NotWhole unless `same` is true for each of the printed policies."""
     if not same.all():
         raise NotWhole(f"policy {printed[same.argmin()]} isn't printed as the postings leave it")
 
 
 def period_of(asked: Asked) -> Period:
-    """What the program prints of both moments, and what stands in the journal."""
+    """Returns what the program prints at both moments, and the records of the journal."""
     demand(asked.on1 <= asked.on2, f"the closing day {asked.on2} is before the opening one, {asked.on1}")
     demand(asked.first <= asked.last, f"the closing position {asked.last} is before the opening one, {asked.first}")
     progress = Progress("asking life for the opening, and then for the closing")
@@ -136,7 +138,7 @@ def period_of(asked: Asked) -> Period:
         progress.end()
         records = records_behind(os.path.join(copy.folder, JOURNAL), 0, asked.last)
         row, rows = placed_rows(copy.folder, asked.bases, closing.policies.number, closing.policies.issued)
-    # what the program has opened needs no other judge
+    # the program has opened this journal, so its records are not judged again
     issues = np.flatnonzero(records.kind == ISSUE)
     issued = records.number[issues]
     demand_issued(opening, issued[issues < asked.first])

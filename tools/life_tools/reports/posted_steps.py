@@ -1,7 +1,7 @@
-"""What was posted between two moments, many postings at once, with each one's policy before and after it.
+"""Goes through the postings between two moments, many at once, with each one's policy before and after it.
 
-The policies that the program printed at the first position are carried on by each posting's rule, and have to be those that
-it printed at the second one.
+The policies that the program printed at the first position are carried on by the rules, and must end up as those that it printed
+at the second position.
 """
 from __future__ import annotations
 
@@ -18,19 +18,20 @@ from life_tools.common.progress import Progress
 from life_tools.journal.replays import Rounds, stable_order
 from life_tools.rules.policies import changed
 
-# the kinds of which a policy has any number, one after the other, and which change nothing of what is insured
+# kinds that a policy can have many times in a row, and that change nothing of what is insured
 REPEATED = ("premium", "settle")
-# what isn't printed of a policy
+# columns of a policy that are not printed
 UNPRINTED = ("last",)
-# so many postings are looked at at once
+# number of postings that are processed at once
 AT_ONCE = 1 << 15
 
 
 @dataclass(frozen=True)
 class Steps:
-    """Postings of a kind: of each its policy's place, its day and amount, and the policy before and after it.
+    """Postings of one kind: for each, its policy's place, its day and amount, and the policy before and after it.
 
-    Each is of another policy, but for premiums and settlements. Of an issue both are the policy that it opens.
+    Each posting is of a different policy, except for premiums and settlements. For an issue, `before` and `after` are both the
+    policy that it opens.
     """
 
     kind: str
@@ -49,7 +50,7 @@ class Steps:
 
 
 def steps_of(period: Period) -> Iterator[Steps]:
-    """All postings, of each policy in their order; at the end the policies have to be those that the program printed."""
+    """Yields all postings, those of each policy in their order, and raises NotWhole unless the policies end up as printed."""
     first = period.asked.first
     records, place = period.records, period.place
     issues = np.flatnonzero(records.kind[first:] == ISSUE) + first
@@ -73,7 +74,7 @@ def blocks_of(places: Array) -> Iterator[Array]:
 
 
 def carried(policies: Policies, records: Records, order: Array, place: Array) -> Iterator[Steps]:
-    """Carries policies on by commands, which stand in order policy by policy."""
+    """Carries policies on by commands that are sorted by policy."""
     counts = np.bincount(place[order], minlength=len(policies))
     ends = np.cumsum(counts)
     left = Rounds(order, ends - counts, ends)
@@ -87,14 +88,14 @@ def carried(policies: Policies, records: Records, order: Array, place: Array) ->
 
 
 def step(policies: Policies, records: Records, kind: int, where: Array, places: Array) -> Steps:
-    """A command of each of some policies."""
+    """Applies one command to each of some policies."""
     before, day, amount = policies.at(places), records.day[where], records.amount[where]
     change(policies, places, before, kind, day, amount, records.premium[where])
     return Steps(KINDS[kind], places, day, amount, before, policies.at(places))
 
 
 def carried_alone(policies: Policies, records: Records, place: int, where: Array) -> Iterator[Steps]:
-    """All commands of one policy, one after the other."""
+    """Applies all commands of one policy, one after the other."""
     policy, kinds = policies.policy(place), records.kind[where]
     before, after = [], []
     for command in records.commands(where):

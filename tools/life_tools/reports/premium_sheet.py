@@ -1,4 +1,4 @@
-"""Premiums: collected, uncollected, past their grace, paid in advance; gross, and the net valuation part of each apart."""
+"""Makes the sheet of premiums: collected, uncollected, past their grace, and paid in advance; gross and net amounts."""
 from __future__ import annotations
 
 from dataclasses import dataclass
@@ -28,7 +28,7 @@ POLICY_HEAD = ["when", "line", "policy", "first due", "premiums", "gross", "net"
 
 
 class Collected:
-    """Takes the postings: what came in by first premiums, by others, and by reinstatements."""
+    """Takes the postings, and adds up what came in by first premiums, by renewal premiums, and by reinstatements."""
 
     def __init__(self) -> None:
         self.sums = {line: [0, 0, 0] for line in (FIRST_YEAR, RENEWAL, BY_REVIVAL)}
@@ -55,8 +55,11 @@ class Collected:
 
 @dataclass
 class Parts:
-    """Policies' parts of the lines of a moment: the place of the line, the policy's place, number and amount, when its first
-    premium was due, from which year on how many, gross, and net, where that is known; with the bounds of the reserve."""
+    """The policies' parts of the lines at a moment.
+
+    Each has the place of its line, the policy's place, number and amount, the day on which its first premium was due, from which
+    year on how many premiums, the gross and (if known) the net amount, and the bounds of the reserve.
+    """
 
     line: Array
     place: Array
@@ -72,14 +75,14 @@ class Parts:
 
 
 def paid_ahead(moment: Moment, of: Policies) -> Array:
-    """How many of the premiums that were paid are due after the day."""
+    """Returns how many of the paid premiums are due after the day."""
     due = np.maximum(completed_years(of.issued, moment.day) + 1, 0)
     found: Array = np.maximum(of.paid - due, 0)
     return found
 
 
 def parts_of(period: Period, moment: Moment) -> Parts:
-    """What is due and unpaid, and what is paid before it is due, of each policy in force."""
+    """Returns for each policy in force what is due and unpaid, and what was paid before it is due."""
     of = moment.policies
     due, ahead = of.due, paid_ahead(moment, of)
     is_due = due <= moment.day
@@ -96,16 +99,18 @@ def parts_of(period: Period, moment: Moment) -> Parts:
 
 
 def posted_ahead(period: Period, moment: Moment, places: Array, of: Policies, year: Array) -> Cents:
-    """What the premiums of these policies were, from a year on: a reinstatement pays all that were missed at the premium of
-    then."""
-    # the last is that of an upgrade
+    """Returns what the premiums of these policies amounted to from a year on.
+
+    A reinstatement pays all missed premiums at the premium that was valid then.
+    """
+    # the last place is that of an upgrade
     mine = np.full(len(moment.policies) + 1, -1)
     mine[places] = np.arange(len(places))
     policy = mine[period.place[:moment.position]]
     at = np.flatnonzero(policy >= 0)
     at = at[stable_order(policy[at])]
     policy, kind = policy[at], period.records.kind[at]
-    # each policy begins with its issue
+    # the postings of each policy begin with its issue
     sets = np.isin(kind, (ISSUE, ALTER))
     premium = period.records.premium[at][np.maximum.accumulate(np.where(sets, np.arange(len(at)), 0))]
     paid = np.where(np.isin(kind, (PREMIUM, REINSTATE)), period.records.amount[at] // premium, 0)
@@ -122,12 +127,12 @@ def posted_ahead(period: Period, moment: Moment, places: Array, of: Policies, ye
 
 
 class Uncollected:
-    """The parts of both moments, whose net premiums are worked out by the arithmetic of the increase in reserves."""
+    """The parts at both moments; their net premiums are computed with the units of the increase in reserves."""
 
     def __init__(self, period: Period, cases: Cases) -> None:
         self.parts = {when: parts_of(period, moment) for when, moment in ((AT_BEGINNING, period.opening),
                                                                           (AT_END, period.closing))}
-        # the parts with a value, by their case
+        # the parts whose policies have a value, by their case
         self.by_case: list[tuple[Parts, Array, Array]] = []
         for parts in self.parts.values():
             case = np.where(cases.years[cases.of[parts.place]] >= 0, 2 * cases.of[parts.place], -1)
@@ -140,7 +145,7 @@ class Uncollected:
         return found
 
     def price(self, case: int, units: Units) -> None:
-        """The net premiums of a case, to the nearest cent of each policy."""
+        """Computes the net premiums of a case, to the nearest cent for each policy."""
         net, most = summed(units.net), len(units.net)
         for parts, order, cases in self.by_case:
             for some in blocks_of(order[slice(*np.searchsorted(cases, (case, case + 1)))]):
@@ -152,7 +157,8 @@ class Uncollected:
 
 @dataclass
 class Sums:
-    """Of some policies: how many, their premiums, gross and net, their reserves, and how many have no net premium."""
+    """The sums for some policies: their number, their premiums, gross and net, their reserves, and how many have no net
+    premium."""
 
     policies: int = 0
     premiums: int = 0
@@ -187,8 +193,10 @@ def demand_account(period: Period, collected: Collected) -> None:
 
 
 def income_of(collected: Collected, sums: dict[tuple[str, str], Sums]) -> int:
-    """What was collected, with what is uncollected in grace at the end more than at the beginning, and less what is paid
-    ahead at the end more than at the beginning."""
+    """Returns the premium income.
+
+    It is what was collected, plus the increase of what is uncollected in grace, less the increase of what is paid in advance.
+    """
     return (collected.gross + sums[GRACE_LINE, AT_END].gross - sums[GRACE_LINE, AT_BEGINNING].gross
             - sums[ADVANCE, AT_END].gross + sums[ADVANCE, AT_BEGINNING].gross)
 

@@ -1,4 +1,4 @@
-"""What a page or a workbook says of where it comes from: the book, its journal's front, the program, and when it was made."""
+"""States where a page or a workbook comes from: the book, a checksum of the journal's prefix, the program, and the time."""
 from __future__ import annotations
 
 import datetime
@@ -14,7 +14,7 @@ AT_ONCE = 1 << 20
 
 
 def sum_of_file(path: str, most: int | None = None) -> str:
-    """The SHA-256 of a file, or of its first bytes."""
+    """Returns the SHA-256 of a file, or of its first `most` bytes."""
     found, left = hashlib.sha256(), os.path.getsize(path) if most is None else most
     try:
         with opened(path) as file:
@@ -29,27 +29,27 @@ def sum_of_file(path: str, most: int | None = None) -> str:
 
 
 def prefix_sum(folder: str, position: int) -> str:
-    """That of what no later posting changes: a journal's first 17 bytes, and 65 for each command."""
+    """Returns the SHA-256 of the prefix that no later posting changes: the journal's first 17 bytes, and 65 for each command."""
     return sum_of_file(os.path.join(folder, JOURNAL), gate_of(position))
 
 
 def shown(text: str) -> str:
-    """A text of which a page, a CSV and a workbook take each letter."""
+    """Returns a text whose letters a page, a CSV file and a workbook can all hold."""
     return "".join(letter if letter.isprintable() else "?" for letter in text)
 
 
 def book_name(folder: str, title: str | None = None) -> str:
-    """How a book is named on what is made of it: by its title, or else by its folder."""
+    """Returns the name of a book on what is made from it: its title, or else the name of its folder."""
     return shown(title or os.path.basename(os.path.realpath(folder)))
 
 
 def with_program(title: str, life: str | None = None) -> str:
-    """The first line of a printed sheet, which names a program that isn't the proved one."""
+    """Returns the first line of a printed sheet, which also says if the program is not the proved one."""
     return title if program_asked(life).is_proved else f"{title}, {UNPROVED}"
 
 
 def provenance(folder: str, position: int, title: str | None = None, life: str | None = None) -> dict[str, str]:
-    """The facts, by their names."""
+    """Returns the facts by their names."""
     name = book_name(folder, title)
     made = datetime.datetime.now(datetime.timezone.utc)
     return {"book": name, "journal": f"SHA-256 {prefix_sum(folder, position)} up to position {position}",

@@ -1,4 +1,4 @@
-"""A report as text and as CSV."""
+"""Writes a report as text and as CSV."""
 from __future__ import annotations
 
 from itertools import chain
@@ -11,7 +11,7 @@ Tables = Sequence[tuple[Sequence[str], Groups]]
 
 
 def lines_of(keys: Sequence[str], groups: Groups, total: Sums, columns: Sequence[str]) -> list[str]:
-    """A table of groups in columns as wide as what stands in them."""
+    """Returns a table of groups as text, with each column as wide as its longest cell."""
     rows = [[", ".join(keys), *columns], *([", ".join(name), *sums.cells()] for name, sums in groups.items()),
             ["total", *total.cells()]]
     widths = [max(len(row[place]) for row in rows) for place in range(len(rows[0]))]

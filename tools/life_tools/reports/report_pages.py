@@ -1,4 +1,4 @@
-"""A report as one page of HTML, which needs no network: totals, groups with a picture of each, words, checks."""
+"""Makes a report one page of HTML that needs no network: totals, groups with a picture of each, words, checks."""
 from __future__ import annotations
 
 import re
@@ -11,7 +11,7 @@ from life_tools.valuations.printed_columns import NO_WORDS, ColumnValuation, Row
 from life_tools.reports.whole_pages import fact_list, whole_page
 from life_tools.reserves.worked_rows import WORDS
 
-# at most so many policies are named beside a word
+# at most so many policies are listed for each word
 NAMED = 20
 STYLE = """
 :root { color-scheme: light }
@@ -39,7 +39,7 @@ th:first-child, td:first-child { text-align: left } tr.total td { font-weight: 6
 
 
 def apart(number: str) -> str:
-    """An amount or a count with its thousands apart, and any other text as it is."""
+    """Returns an amount or a count with separators of thousands, and any other text unchanged."""
     parts = re.fullmatch(r"(-?)([0-9]+)(\.[0-9]{2})?", number)
     return f"{parts[1]}{int(parts[2]):,}{parts[3] or ''}" if parts else number
 
@@ -49,7 +49,7 @@ def money(cents: int) -> str:
 
 
 def table(heads: Sequence[str], rows: Sequence[Sequence[str]], total: Sequence[str] | None = None) -> str:
-    """A table; the last row stands apart where it is a total."""
+    """Returns a table; a row of totals is set apart at its end if there is one."""
     lines = ["<div class=\"wide\"><table>", "<tr>" + "".join(f"<th>{escape(each)}</th>" for each in heads) + "</tr>"]
     lines += ["<tr>" + "".join(f"<td>{escape(each)}</td>" for each in row) + "</tr>" for row in rows]
     if total:
@@ -58,12 +58,12 @@ def table(heads: Sequence[str], rows: Sequence[Sequence[str]], total: Sequence[s
 
 
 def most_of(tables: Sequence[tuple[Sequence[str], Groups]], place: int) -> int:
-    """The greatest of all groups' sums, to which all bars of a page are drawn."""
+    """Returns the greatest sum of all groups, to which all bars of a page are scaled."""
     return max((each.bounds[place] for _, groups in tables for each in groups.values()), default=0)
 
 
 def picture(groups: Groups, place: int, most: int) -> str:
-    """A bar for each group, by one of its sums."""
+    """Returns a bar for each group, by one of its sums."""
     lines = ["<div class=\"bars\">"]
     for name, sums in groups.items():
         permille = 1000 * sums.bounds[place] // most if most > 0 else 0
@@ -83,7 +83,7 @@ def facts(valuation: ColumnValuation, total: Sums, heads: Sequence[str]) -> str:
 
 
 def words_of(rows: Rows) -> str:
-    """The policies without bounds, by their word."""
+    """Returns a table of the policies without bounds, by their word."""
     cells = []
     for word in sorted(WORDS):
         numbers = rows.number[rows.word == NO_WORDS.index(word)]
@@ -97,7 +97,7 @@ def words_of(rows: Rows) -> str:
 
 def page(title: str, provenance: dict[str, str], valuation: ColumnValuation, total: Sums,
          tables: Sequence[tuple[Sequence[str], Groups]], heads: Sequence[str], checks: Sequence[str]) -> str:
-    """The whole page."""
+    """Returns the whole page."""
     parts = [fact_list(provenance),
              "<p>Amounts in the journal's currency. The exact reserve lies between the lower and the upper bound. Bars are the "
              f"{escape(heads[-1])}, all to one scale.</p>", facts(valuation, total, heads)]

@@ -1,4 +1,4 @@
-"""A report and an analysis of change as sheets, of which a workbook and a page are made."""
+"""Makes a report and an analysis of change into sheets, from which a workbook and a page are made."""
 from __future__ import annotations
 
 from typing import Sequence
@@ -8,9 +8,9 @@ from life_tools.common.formats import money
 from life_tools.valuations.groups import Groups, Sums
 from life_tools.reports.sheets import BY_BOUNDS, COUNT, TEXT, Column, Sheet
 
-# columns of counts; all others but the first are of amounts
+# the columns of counts; all others, except the first, are columns of amounts
 COUNTED = ("policies", "insured", "words")
-# so long a sheet's name may be
+# the greatest length of a sheet's name in a workbook
 MOST_LETTERS = 31
 
 
@@ -19,7 +19,7 @@ def cells_of(sums: Sums) -> list[int]:
 
 
 def sheet_of(keys: Sequence[str], groups: Groups, total: Sums, columns: Sequence[str]) -> Sheet:
-    """A table of groups, with its total."""
+    """Returns a table of groups with its total."""
     heads = [Column(", ".join(keys), TEXT), *(Column(name, COUNT) if name in COUNTED else Column(name) for name in columns)]
     sheet = Sheet(" ".join(keys)[:MOST_LETTERS], f"By {', '.join(keys)}", heads,
                   checks=["The groups add up to the printed total."])
@@ -30,7 +30,7 @@ def sheet_of(keys: Sequence[str], groups: Groups, total: Sums, columns: Sequence
 
 
 def movement_sheet(title: str, lines: Sequence[Moved], cash: Cash, notes: Sequence[str]) -> Sheet:
-    """The lines of an analysis of change."""
+    """Returns the sheet of the lines of an analysis of change."""
     heads = [Column("line", TEXT), Column("policies", COUNT), *BY_BOUNDS]
     sheet = Sheet("movement", title, heads,
                   notes=[f"premiums received {money(cash.premiums)}, settlements paid {money(cash.settlements)}", *notes],

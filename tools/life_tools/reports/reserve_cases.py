@@ -1,7 +1,7 @@
-"""Policies of the same basis row, plan, age and years: what 1 of them is worth is worked out once.
+"""Groups policies with the same basis row, plan, age and years, so that what 1 of them is worth is computed only once.
 
-A case is one of these twice: with premiums to come, and paid up. Of each the units are made when they are wanted, and then
-forgotten, so that a book of many cases needs no more room than one of few.
+Each such group makes two cases: with premiums to come, and paid up. The units of a case are made when they are needed and then
+forgotten, so that a book of many cases needs no more memory than a book of few.
 """
 from __future__ import annotations
 
@@ -18,8 +18,10 @@ from life_tools.rules.policies import Policy
 
 @dataclass(frozen=True)
 class Cases:
-    """Of each policy its terms, from 0; of all terms what they are, the age at issue, and the years of cover, or -1 where they
-    have no value."""
+    """For each policy the number of its terms, from 0; for each terms what they are, the age at issue, and the years of cover.
+
+    The years are -1 if the terms give no value.
+    """
 
     of: Array
     terms: list[Terms | str]
@@ -31,7 +33,7 @@ class Cases:
         return 2 * len(self.terms)
 
     def units(self, case: int, measure: str) -> Units:
-        """The units of a case, which is twice the place of its terms, and one more where it is paid up."""
+        """Returns the units of a case, whose number is twice that of its terms, plus one if it is paid up."""
         terms = self.terms[case // 2]
         assert isinstance(terms, Terms)
         return units_of(insured_by(terms, self.ages[case // 2], case % 2 == 1, Column), measure)
@@ -42,7 +44,7 @@ def terms_by(policy: Policy, rows: Sequence[PlacedRow], place: int) -> Terms | s
 
 
 def cases_of(policies: Policies, place: Array, rows: Sequence[PlacedRow]) -> Cases:
-    """The cases of policies, of which each has the place of its basis row, or 0."""
+    """Returns the cases of policies; `place` has for each policy the number of its basis row, or 0."""
     code = ((place * 256 + policies.plan) * 256 + policies.age) * 256 + policies.years
     _, first, of = np.unique(code, return_index=True, return_inverse=True)
     found = [(policies.policy(at), int(place[at])) for at in first.tolist()]

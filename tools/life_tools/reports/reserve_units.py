@@ -1,8 +1,8 @@
-"""What a reserve of 1 is made of, year by year: net premiums, interest, the cost of insurance.
+"""Computes what a reserve of 1 consists of, year by year: net premiums, interest, the cost of insurance.
 
-The formulas are those of `reserves`; only the values of benefits and of premiums go back year by year from the end of the
-cover, in forty decimals, so that all years of all policies can be had. What comes out is kept in thirty, where an error of
-the last ones is no part of a cent in millions of policies.
+The formulas are those of `reserves`. Only the values of benefits and premiums are computed differently: year by year back from
+the end of the cover, in forty decimals, so that all years of all policies are available. The results keep thirty decimals; errors
+in the last of them are far below a cent even for millions of policies.
 """
 from __future__ import annotations
 
@@ -15,12 +15,12 @@ from life_tools.reserves.exact import Cover, InForce, Insured
 from life_tools.tables.basis import FINEST, Table
 
 ONE, FINE = 10**30, 10**40
-# the errors of forty decimals come to less than this in thirty
+# the errors of values in forty decimals are less than this many units of the thirtieth decimal
 NOISE = 10**5
 
 
 class Column(Cover):
-    """A cover of which the values of all years are made at once, from its end back to its beginning, in units of 10^-40."""
+    """A cover whose values for all years are computed at once, from its end back to its beginning, in units of 10^-40."""
 
     def __init__(self, table: Table, age: int, years: int, payments: int, matures: bool, discount: Fraction) -> None:
         super().__init__(table, age, years, payments, matures, discount)
@@ -37,21 +37,21 @@ class Column(Cover):
 
 
 def finest(rate: Fraction) -> int:
-    """A rate in units of 10^-9, of which a table's are whole numbers."""
+    """Returns a rate in units of 10^-9, of which a table's rates are whole multiples."""
     return rate.numerator * (FINEST // rate.denominator)
 
 
 def whole(value: Fraction) -> int:
-    """In thirty decimals, rounded down."""
+    """Returns a value in units of 10^-30, rounded down."""
     return value.numerator * ONE // value.denominator
 
 
 @dataclass(frozen=True)
 class Units:
-    """Of 1 insured, at each year from 0 to the end of the cover, in units of 10^-30.
+    """For 1 insured, values at each policy year from 0 to the end of the cover, in units of 10^-30.
 
-    `reserve` is that by the measure; the others are what made it since the issue: net premiums, interest, the cost of
-    insurance, and what was added so that no reserve lies below 0. `net` is the net premium of each year.
+    `reserve` is the reserve by the measure. The others are what made it since the issue: net premiums, interest, the cost of
+    insurance, and what was added so that no reserve is below 0. `net` is the net premium of each year.
     """
 
     reserve: list[int]
@@ -67,7 +67,7 @@ class Units:
 
 
 class Years:
-    """Of each year of a cover: its net premium, and the interest and the cost that lead to the reserve at its end."""
+    """For each year of a cover: its net premium, and the interest and the cost that lead to the reserve at its end."""
 
     def __init__(self, insured: Insured) -> None:
         cover = insured.cover
@@ -87,7 +87,7 @@ class Years:
 
 
 def values_of(insured: Insured, cover: Column) -> tuple[list[int], int]:
-    """At each year benefits less the net premiums to come, below 0 too, and in how many parts of 1 they are counted."""
+    """Returns at each year the benefits less the net premiums to come, even if below 0, and how many units make 1."""
     modified = insured.modified if isinstance(insured, InForce) else Fraction(0)
     values = [benefits * modified.denominator - modified.numerator * annuity
               for benefits, annuity in zip(cover.benefits, cover.annuities)]
@@ -95,7 +95,7 @@ def values_of(insured: Insured, cover: Column) -> tuple[list[int], int]:
 
 
 def summed(steps: Sequence[int]) -> list[int]:
-    """The sums of none, one, two and more."""
+    """Returns the running sums of the steps, beginning with 0."""
     found = [0]
     for step in steps:
         found.append(found[-1] + step)
@@ -103,14 +103,17 @@ def summed(steps: Sequence[int]) -> list[int]:
 
 
 def halves(steps: Sequence[int]) -> list[int]:
-    """The sums up to the middle of each year, and at the end of the last one."""
+    """Returns the sums up to the middle of each year, and at the end of the last year."""
     ends = summed(steps)
     return [*(ends[year] + step // 2 for year, step in enumerate(steps)), ends[-1]]
 
 
 def units_of(insured: Insured, measure: str) -> Units:
-    """By `terminal` a year's premium, interest and cost count when the year is over. By `mean` the premium counts when the
-    year begins, and half of the others."""
+    """Returns the units of a cover by a measure.
+
+    By `terminal`, a year's premium, interest and cost count when the year is over. By `mean`, the premium counts when the year
+    begins, and half of the interest and cost.
+    """
     years = Years(insured)
     if measure != "mean":
         return Units(years.terminal, summed(years.net), summed(years.interest), summed(years.cost), summed(years.held), years.net)
@@ -123,5 +126,5 @@ def units_of(insured: Insured, measure: str) -> Units:
 
 
 def cents(scaled: int) -> int:
-    """An amount in 10^-30 cents to the nearest cent."""
+    """Returns an amount in 10^-30 cents, rounded to the nearest cent."""
     return (2 * scaled + ONE) // (2 * ONE)

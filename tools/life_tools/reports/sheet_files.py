@@ -1,4 +1,4 @@
-"""Sheets as text, as CSV files of a folder, and as a workbook."""
+"""Writes sheets as text, as CSV files in a folder, and as a workbook."""
 from __future__ import annotations
 
 import os
@@ -11,21 +11,21 @@ from life_tools.common.program import UNPROVED
 from life_tools.reports.sheets import CENTS, COUNT, TEXT, Cell, Column, Sheet, cell_text
 
 Facts = dict[str, str]
-# among the facts, before a sheet's name
+# among the facts, the name of a note is this prefix and the sheet's name
 NOTE_ON = "note on "
 FORMATS = {COUNT: "#,##0", CENTS: "#,##0.00"}
 
 
 def texts_of(sheet: Sheet) -> list[list[str]]:
-    """The rows as they are written, after a head."""
+    """Returns the rows as they are written, after a header row."""
     rows = [[cell_text(cell, column) for cell, column in zip(row.cells, sheet.columns)] for row in sheet.rows]
     return [[column.name for column in sheet.columns], *rows]
 
 
 def lines_of(sheet: Sheet) -> list[str]:
-    """A sheet in columns as wide as what stands in them, with what is to be said of it."""
+    """Returns a sheet as text with each column as wide as its longest cell, followed by the sheet's notes."""
     names, *rest = texts_of(sheet)
-    # what two columns have in common stands in a line of its own
+    # what two column names have in common is on a header line of its own
     heads = [[name.rpartition(": ")[0] for name in names], [name.rpartition(": ")[2] for name in names]]
     rows = [head for head in heads if any(head)] + rest
     widths = [max(len(row[place]) for row in rows) for place in range(len(sheet.columns))]
@@ -40,12 +40,12 @@ def lines_of(sheet: Sheet) -> list[str]:
 # --- CSV ---
 
 def warning_rows(facts: Facts) -> list[list[str]]:
-    """The last row of a CSV whose numbers aren't the proved program's."""
+    """Returns the last row of a CSV file whose numbers were not printed by the proved program, or no row."""
     return [[UNPROVED, facts[UNPROVED]]] if UNPROVED in facts else []
 
 
 def write_csvs(folder: str, facts: Facts, sheets: Sequence[Sheet]) -> None:
-    """A file for each sheet, and one of the facts and of what is to be said of the sheets."""
+    """Writes a file for each sheet, and one with the facts and the notes on the sheets."""
     notes = [(f"{NOTE_ON}{sheet.name}", note) for sheet in sheets for note in sheet.notes]
     write_csv_file(os.path.join(folder, "facts.csv"), [("fact", "value"), *facts.items(), *notes])
     for sheet in sheets:
@@ -53,7 +53,7 @@ def write_csvs(folder: str, facts: Facts, sheets: Sequence[Sheet]) -> None:
 
 
 def write_policies(folder: str, sheets: Sequence[Sheet]) -> None:
-    """A file for each sheet that states each policy's part."""
+    """Writes a file for each sheet that has each policy's part."""
     for sheet in sheets:
         if sheet.policy_head:
             write_csv_file(os.path.join(folder, f"{sheet.name}.csv"), chain([sheet.policy_head], sheet.policy_rows))
@@ -72,7 +72,7 @@ def put(page: Any, row: int, place: int, cell: Cell, column: Column, bold: Any) 
 
 
 def widen(page: Any, sheet: Sheet) -> None:
-    """Columns as wide as what stands in them, with its thousands apart."""
+    """Makes each column as wide as its longest cell with separators of thousands."""
     utils = package("openpyxl.utils", "python3-openpyxl")
     for place, column in enumerate(sheet.columns):
         widths = [len(text) + (len(text) // 3 if column.kind != TEXT else 0)
@@ -82,7 +82,7 @@ def widen(page: Any, sheet: Sheet) -> None:
 
 
 def head(page: Any, title: str, styles: Any) -> None:
-    """A title, which is a text whatever it begins with."""
+    """Writes a title, which is a text even if it looks like a formula."""
     put_text(page, 1, 1, title).font = styles.Font(bold=True, size=14)
 
 
@@ -108,7 +108,7 @@ def fill(page: Any, sheet: Sheet, styles: Any, warning: str) -> None:
 
 
 def fit(page: Any) -> None:
-    """As wide as a sheet of paper."""
+    """Scales a page to the width of a sheet of paper."""
     page.page_setup.orientation, page.page_setup.fitToWidth, page.page_setup.fitToHeight = "landscape", 1, 0
     page.sheet_properties.pageSetUpPr = styles_of("worksheet.properties").PageSetupProperties(fitToPage=True)
 
@@ -118,7 +118,7 @@ def styles_of(part: str) -> Any:
 
 
 def write_workbook(path: str, title: str, facts: Facts, sheets: Sequence[Sheet]) -> None:
-    """A page of the facts, and one for each sheet."""
+    """Writes a page with the facts, and one for each sheet."""
     openpyxl, styles = package("openpyxl", "python3-openpyxl"), styles_of("styles")
     book = openpyxl.Workbook()
     first = book.active

@@ -1,4 +1,4 @@
-"""Sheets as one page of HTML, which needs no network: tables at a desk, and on a phone a card for each row."""
+"""Makes sheets one page of HTML that needs no network: tables on a wide screen, and on a phone a card for each row."""
 from __future__ import annotations
 
 from html import escape
@@ -39,7 +39,7 @@ tr.total td { font-weight: 600; border-top: 2px solid #1b1f23 }
 
 
 def head_cell(name: str, kind: str) -> str:
-    """A column's head; what it has in common with the next one stands above."""
+    """Returns the header cell of a column; the part of its name that it shares with the next one is above the rest."""
     return f"<th scope=\"col\"{' class=text' if kind == TEXT else ''}>{escape(name).replace(': ', '<br>')}</th>"
 
 
@@ -49,11 +49,11 @@ def row_cells(row: Row, sheet: Sheet, part: Part) -> str:
         cell, column = row.cells[place], sheet.columns[place]
         text = cell_text(cell, column)
         shown = text if column.kind == TEXT else apart(text)
-        # what is 0 in a wide table is left out of a card
+        # in a wide table a value of 0 is left out of a card
         is_none = cell in (None, "") or cell == 0 and len(sheet.columns) > MOST_COLUMNS
         kinds = [*(["text"] if column.kind == TEXT else []), *(["none"] if is_none else [])]
         named = f" class=\"{' '.join(kinds)}\"" if kinds else ""
-        # a card names what a table has in its head
+        # a card shows the name that is in a table's header
         cells.append(f"<td{named}><span>{escape(name)}</span>{escape(shown)}</td>")
     return "".join(cells)
 
@@ -66,7 +66,7 @@ def table_of(sheet: Sheet, part: Part) -> list[str]:
 
 
 def section(sheet: Sheet) -> str:
-    """A sheet with its notes and checks."""
+    """Returns a sheet with its notes and checks."""
     tables = [line for part in parts_of(sheet) for line in table_of(sheet, part)]
     return "\n".join([f"<section id=\"{escape(sheet.name)}\"><h2>{escape(sheet.title)}</h2>", *tables,
                       *(f"<p>{escape(note)}</p>" for note in sheet.notes),
@@ -74,7 +74,7 @@ def section(sheet: Sheet) -> str:
 
 
 def page(title: str, facts: dict[str, str], sheets: Sequence[Sheet]) -> str:
-    """The whole page, which is printed across."""
+    """Returns the whole page, which is printed in landscape format."""
     says = ("What the program printed is proved; what was added to it is compared with its printed totals, as is said below each "
             "sheet.") if UNPROVED not in facts else "What was added is compared with printed totals, as is said below each sheet."
     parts = [fact_list(facts), f"<p>Amounts in the journal's currency. {says}</p>", *(section(sheet) for sheet in sheets)]

@@ -1,4 +1,5 @@
-"""Sheets of a statement as plain data: columns of texts, counts and amounts, rows in sections, and sums over several books."""
+"""Represents the sheets of a statement as plain data: columns of texts, counts and amounts, rows in sections, and sums of
+books."""
 from __future__ import annotations
 
 from dataclasses import dataclass, field
@@ -11,18 +12,18 @@ Cell = Union[str, int, None]
 
 
 class Column(NamedTuple):
-    """A column: its name, and whether texts, counts or amounts in cents stand in it."""
+    """A column: its name, and whether its cells are texts, counts or amounts in cents."""
 
     name: str
     kind: str = CENTS
 
 
-# of amounts that are added up twice, from the lower and from the upper bounds of printed rows
+# for amounts that are added up twice, from the lower and from the upper bounds of printed rows
 BY_BOUNDS = (Column("by lower bounds"), Column("by upper bounds"))
 
 
 class Row(NamedTuple):
-    """A row: its cells, the section of the sheet that it stands in, and whether it is a sum or a balance."""
+    """A row: its cells, its section of the sheet, and whether it is a sum or a balance."""
 
     cells: tuple[Cell, ...]
     section: int = 0
@@ -31,7 +32,7 @@ class Row(NamedTuple):
 
 @dataclass
 class Sheet:
-    """A sheet: a short name, a title, its columns and rows, what is to be said of it, and what was compared."""
+    """A sheet: a short name, a title, its columns and rows, notes, and what was compared."""
 
     name: str
     title: str
@@ -39,10 +40,10 @@ class Sheet:
     rows: list[Row] = field(default_factory=list)
     notes: list[str] = field(default_factory=list)
     checks: list[str] = field(default_factory=list)
-    # each policy's part, where that was asked for: a head, and rows as they are written
+    # each policy's part if that was asked for: a header row, and rows as they are written
     policy_head: list[str] = field(default_factory=list)
     policy_rows: Iterable[list[str]] = ()
-    # what exact sums the rows were rounded from, where several books' are added before they are rounded
+    # the exact sums from which the rows were rounded; those of several books are added before they are rounded
     exact: Any = None
 
     def add(self, *cells: Cell, section: int = 0, is_total: bool = False) -> None:
@@ -51,19 +52,19 @@ class Sheet:
 
 
 def cell_text(cell: Cell, column: Column) -> str:
-    """A cell as it is written: amounts with a point, and nothing where there is none."""
+    """Returns a cell as it is written: an amount with a point, and "" for an empty cell."""
     if cell is None:
         return ""
     return money(cell) if column.kind == CENTS and isinstance(cell, int) else str(cell)
 
 
-# of a sheet with more columns the counts and the amounts are two tables, each of which is read and printed whole
+# if a sheet has more columns, its counts and its amounts are shown as two tables
 MOST_COLUMNS = 10
 COUNTED, VALUED = ": number", ": amount"
 
 
 class Part(NamedTuple):
-    """A table of a sheet: its title, and the places of its columns with their names there."""
+    """A table of a sheet: its title, and the places of its columns with their names in this table."""
 
     title: str
     places: list[int]
@@ -71,7 +72,7 @@ class Part(NamedTuple):
 
 
 def parts_of(sheet: Sheet) -> list[Part]:
-    """The tables that a sheet is shown as: one, or of a wide one its counts and its amounts."""
+    """Returns the tables as which a sheet is shown: one, or for a wide sheet one of counts and one of amounts."""
     columns = list(enumerate(sheet.columns))
     if len(columns) <= MOST_COLUMNS or not any(column.name.endswith(COUNTED) for _, column in columns):
         return [Part(sheet.title, [place for place, _ in columns], [column.name for _, column in columns])]
@@ -84,7 +85,7 @@ def parts_of(sheet: Sheet) -> list[Part]:
 
 
 def key_of(row: Row, columns: Sequence[Column]) -> tuple[Cell, ...]:
-    """What a row is of: its texts, with its place in the sheet."""
+    """Returns the key of a row: its section, whether it is a total, and its texts."""
     texts = (cell for cell, column in zip(row.cells, columns) if column.kind == TEXT)
     return row.section, row.is_total, *texts
 
@@ -101,8 +102,10 @@ def plus(one: Row, other: Row, columns: Sequence[Column]) -> Row:
 
 
 def added(sheets: Sequence[Sheet]) -> Sheet:
-    """One sheet of several books: rows of the same texts added; where not all have the same, in the order of their texts, a
-    section's sums at its end."""
+    """Returns one sheet for several books, in which rows with the same texts are added.
+
+    If the sheets have different rows, the rows are sorted by section and texts, with a section's sums at its end.
+    """
     first = sheets[0]
     demand(all(sheet.columns == first.columns and sheet.name == first.name for sheet in sheets), "sheets of several kinds")
     found: dict[tuple[Cell, ...], Row] = {}

@@ -1,4 +1,4 @@
-"""A statement: its facts and its sheets, of one book between two moments, or of several books added up."""
+"""Makes a statement, its facts and its sheets, for one book between two moments or for several books together."""
 from __future__ import annotations
 
 from dataclasses import dataclass
@@ -20,7 +20,7 @@ from life_tools.reports.sheets import Sheet, added
 
 @dataclass
 class Statement:
-    """What it is of: days, positions, bases and the measure, by their names; and its sheets."""
+    """What the statement is of, by name (days, positions, bases, the measure), and its sheets."""
 
     facts: dict[str, str]
     sheets: list[Sheet]
@@ -32,7 +32,7 @@ def facts_of(asked: Asked) -> dict[str, str]:
 
 
 def sheets_of(period: Period) -> list[Sheet]:
-    """All sheets; raises NotWhole where a sum isn't what the program printed."""
+    """Returns all sheets, and raises NotWhole if a sum is not what the program printed."""
     cases = cases_of(period.closing.policies, period.row, period.rows)
     exhibit, increase, claims, collected = LifeExhibit(), Increase(period, cases), Claims(), Collected()
     for steps in steps_of(period):
@@ -48,7 +48,7 @@ def sheets_of(period: Period) -> list[Sheet]:
 
 
 def price(cases: Cases, measure: str, *priced: Increase | Uncollected) -> None:
-    """Works out what 1 of each case is worth, as far as it is wanted, once for all."""
+    """Computes what 1 of each needed case is worth, once for all sheets."""
     wanted = np.unique(np.concatenate([each.cases for each in priced])).tolist()
     progress = Progress("reserves", len(wanted))
     for place, case in enumerate(wanted):
@@ -60,12 +60,15 @@ def price(cases: Cases, measure: str, *priced: Increase | Uncollected) -> None:
 
 
 def statement_of(asked: Asked) -> Statement:
-    """The statement of a book; Wrong where it can't be made, and of that NotWhole where it doesn't add up."""
+    """Returns the statement of a book.
+
+    Raises Wrong if it cannot be made, and NotWhole, which is a kind of Wrong, if it does not add up.
+    """
     return Statement(facts_of(asked), sheets_of(period_of(asked)))
 
 
 def of_books(names: Sequence[str], statements: Sequence[Statement]) -> Statement:
-    """The statement of several books together, which have to be of the same days and measure."""
+    """Returns the statement of several books together, which must be of the same days and measure."""
     first = statements[0]
     for name, statement in zip(names, statements):
         alike = all(days(statement.facts[key]) == days(first.facts[key]) for key in ("from", "to", "reserves"))
