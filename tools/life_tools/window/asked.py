@@ -1,4 +1,4 @@
-"""The words of a request, each with its limits: what is no day, number, position or known word is refused with its reason."""
+"""Reads the arguments of a request, each within its limits; one that is no day, number, position or known word is refused."""
 from __future__ import annotations
 
 import datetime
@@ -8,20 +8,20 @@ from life_tools.common.formats import FIRST_DAY, LAST_DAY, MOST_COMMANDS, Wrong,
 
 
 class BadRequest(Wrong):
-    """A word of a request isn't as it must be; the text says which, and what is wanted."""
+    """An argument of a request is not as it must be; the text says which one, and what is wanted."""
 
 
-# longer words are no number, day or name of anything here
+# a longer text is not a number, a day or a name of anything here
 MOST_LETTERS = 40
 
 
 def shown(text: str) -> str:
-    """A word of a request in a reason: not longer than one reads."""
+    """Returns an argument of a request for an error message, shortened if it is long."""
     return text if len(text) <= MOST_LETTERS else text[:MOST_LETTERS] + "…"
 
 
 class Asked:
-    """The words of one request."""
+    """The arguments of one request."""
 
     def __init__(self, words: Iterable[tuple[str, str]]) -> None:
         self.words: dict[str, str] = {}
@@ -31,7 +31,7 @@ class Asked:
             self.words[name] = text.strip()
 
     def only(self, names: Sequence[str]) -> None:
-        """Refuses words that the page doesn't know."""
+        """Raises BadRequest if there is an argument that the page does not know."""
         for name in self.words:
             if name not in names:
                 raise BadRequest(f"{shown(name)} is no word of this page")
@@ -76,7 +76,7 @@ class Asked:
         return text
 
     def digits(self, name: str, most: int) -> str:
-        """Some digits of a number."""
+        """Returns an argument that is part of a number, or ""."""
         text = self.text(name)
         if text and not (text.isascii() and text.isdigit() and len(text) <= most):
             raise BadRequest(f"{name}: {shown(text)} is no number, and no part of one: up to {most} digits")

@@ -1,4 +1,4 @@
-"""The audit of a position: seal, flags, a sample with its papers and letters, and whether the journal's file is whole."""
+"""Makes the pages for the audit of a position: seal, flags, a sample with its papers and letters, and the file's wholeness."""
 from __future__ import annotations
 
 import csv
@@ -33,7 +33,7 @@ def sealed(book: View) -> ToolRun:
 
 
 def verified(book: View) -> ToolRun:
-    """What `verify` says of the journal as it lies there now."""
+    """Returns what `verify` reports about the journal in its present state."""
     try:
         stat = os.stat(book.listed.journal)
     except OSError as error:
@@ -43,11 +43,11 @@ def verified(book: View) -> ToolRun:
 
 
 def audit(book: View, asked: Asked) -> Answer:
-    """A day is chosen, its position is told, and all that follows is of that position."""
+    """Returns the page on which a day is chosen; everything on it is of the position of that day."""
     asked.only(("at", "p", "on", "before"))
     on = asked.day_or_none("on")
     if on is not None and not asked.text("p"):
-        # the day's own position, as *Month and year* tells it
+        # the day's own position, the same that the page *Month and year* shows
         book = book.at_position(book.history().position_on(number_at(on)))
     history, before = book.history(), asked.day_or_none("before")
     if before is None and on is not None:
@@ -61,12 +61,13 @@ def audit(book: View, asked: Asked) -> Answer:
 
 
 def measure_on(day: str) -> str:
-    """Mean reserves at the end of a calendar year, as in its statement, and terminal ones on any other day."""
+    """Returns the measure for a day: mean reserves at the end of a calendar year, as in a statement, and otherwise terminal
+    reserves."""
     return "mean" if day.endswith("-12-31") else "terminal"
 
 
 def whole_or_why(book: View) -> tuple[int, str]:
-    """What is said of the journal's file; a journal that was taken away is told, and the page stays."""
+    """Returns the status and what `verify` prints; if the journal is gone, the page still appears and says so."""
     try:
         run = verified(book)
     except Wrong as wrong:
@@ -118,7 +119,7 @@ def flags_csv(book: View, asked: Asked) -> Answer:
 # --- a sample ---
 
 def drawn(book: View, asked: Asked) -> tuple[ToolRun, dict[str, object]]:
-    """A sample of the position that is looked at; the same words draw the same."""
+    """Returns a sample of the position that is shown; the same arguments always draw the same rows."""
     asked.only(SAMPLE_WORDS)
     on = asked.day_or_none("on")
     if on is None:
@@ -133,7 +134,7 @@ def drawn(book: View, asked: Asked) -> tuple[ToolRun, dict[str, object]]:
 
 
 def sample_rows(run: ToolRun) -> list[Sequence[str]]:
-    """The drawn rows as they were printed: number, status, year, bounds."""
+    """Returns the drawn rows as they were printed: number, status, year, bounds."""
     rows = [row_of(line, 2) for line in run.printed.splitlines() if line.startswith("row,")]
     return [(str(it.number), it.status, str(it.year), *map(money, it.bounds)) for it in rows]
 
@@ -167,7 +168,7 @@ def named(words: dict[str, object], what: str, ends: str) -> str:
 
 
 def papers(book: View, asked: Asked) -> Answer:
-    """The page that `audit papers` writes, as a file: it brings its own style, which this window doesn't let in."""
+    """Returns the page of `audit papers` as a file, because it has a style of its own, which this window does not permit."""
     run, words = drawn(book, asked)
     told = ["audit", "papers", run.file("printed"), "--title", book.name, "--html", "OUT/papers.html"]
     with open(tool_run(book, told, "papers of the sample").file("papers.html"), "rb") as file:
@@ -175,7 +176,7 @@ def papers(book: View, asked: Asked) -> Answer:
 
 
 def letters_page(book: View, asked: Asked) -> Answer:
-    """The letters as `audit letters --html` writes them."""
+    """Returns the letters as `audit letters --html` writes them."""
     run, words = drawn(book, asked)
     told = ["audit", "letters", run.file("printed"), "--title", book.name, "--html", "OUT/letters.html"]
     with open(tool_run(book, told, "letters of the sample").file("letters.html"), "rb") as file:

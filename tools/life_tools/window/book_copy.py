@@ -1,7 +1,7 @@
-"""A book that is looked at: a private copy of its journal's prefix and of its basis, and the tables made of it.
+"""Keeps a book for the window: a private copy of its journal's prefix and of its basis, and the tables made from the copy.
 
-The journal itself is opened for reading alone, and for no longer than the copy takes: whatever is posted meanwhile lies
-behind the copy's position. A basis that was taken is kept as it was, so that a page by it stays what it was.
+The journal itself is only opened for reading, and no longer than the copy takes: what is posted meanwhile comes after the copy's
+position. A basis is kept as it was when it was copied, so that a page made with it stays the same.
 """
 from __future__ import annotations
 
@@ -30,7 +30,7 @@ from life_tools.window.history import NAMES, History, history_of
 from life_tools.window.jobs import Job, Jobs
 from life_tools.window.kept_columns import keep, kept
 
-# so many results are kept of a book
+# number of results that are kept for a book
 MOST_KEPT = 24
 POLICIES = tuple(column.name for column in fields(Policies))
 RECORDS = tuple(column.name for column in fields(Records))
@@ -39,7 +39,7 @@ Stamp = tuple[object, ...]
 
 @dataclass(frozen=True)
 class TakenBasis:
-    """A basis file with its tables as they were taken: its name, their SHA-256, and the private folder in which they lie."""
+    """A basis file with its tables as they were copied: its name, their SHA-256, and the private folder with the copies."""
 
     name: str
     sum: str
@@ -48,20 +48,20 @@ class TakenBasis:
 
 @dataclass(frozen=True)
 class KeptPolicies:
-    """A folder with the policies of a position as columns."""
+    """The path of a folder with the policies of a position as columns."""
 
     path: str
 
 
 @dataclass(frozen=True)
 class KeptList:
-    """A file with the policies of a position as a table."""
+    """The path of a file with the policies of a position as a table."""
 
     path: str
 
 
 def basis_sum(folder: str, name: str) -> str:
-    """The SHA-256 of a basis file and its tables, with their names."""
+    """Returns the SHA-256 of a basis file and its tables, including their names."""
     found = hashlib.sha256()
     for each in basis_files(folder, name):
         found.update(each.encode() + b"\0" + bytes_of(os.path.join(folder, each)))
@@ -69,7 +69,7 @@ def basis_sum(folder: str, name: str) -> str:
 
 
 def stamp_of(*paths: str) -> Stamp:
-    """What changes where a file is written anew; it costs no reading."""
+    """Returns values that change if a file is written again; the files are not read for this."""
     found = []
     for path in paths:
         stat = os.stat(path)
@@ -82,7 +82,7 @@ def it_is(seen: str) -> str:
 
 
 class BookCopy:
-    """One book of the window, with its private folder, its tables and what was asked of it."""
+    """A book of the window, with its private folder, its tables and the results that were asked for."""
 
     def __init__(self, number: int, book: ListedBook, private: str, life: list[str], root: str = "") -> None:
         self.number, self.book, self.life, self.root = number, book, life, root
@@ -110,17 +110,17 @@ class BookCopy:
 
     @property
     def basis(self) -> TakenBasis:
-        """The book's own basis as it was last taken."""
+        """Returns the book's own basis as it was last copied."""
         return next(each for each in reversed(self.bases) if each.name == self.book.basis)
 
     def sum_at(self, position: int) -> str:
-        """The SHA-256 of the journal up to a position; it is the same of each later copy."""
+        """Returns the SHA-256 of the journal up to a position; it is the same for every later copy."""
         if position not in self.sums:
             self.sums[position] = prefix_sum(self.folder, position)
         return self.sums[position]
 
     def sum_all(self, positions: Iterable[int]) -> None:
-        """The same of many positions, for which the journal is read once."""
+        """Computes the same for many positions, and reads the journal only once."""
         found = hashlib.sha256()
         with open(self.journal, "rb") as file:
             for position in sorted(set(positions) - set(self.sums)):
@@ -129,7 +129,7 @@ class BookCopy:
                 self.sums[position] = found.copy().hexdigest()
 
     def open(self) -> None:
-        """Makes the copy and the tables, where they aren't made yet; raises Working meanwhile."""
+        """Makes the copy and the tables if they are not made yet, and raises Working meanwhile."""
         if not self.positions:
             self.jobs.asked("open", f"opening the book {self.name}", self.make)
         if not self.jobs.is_known("orders"):
@@ -142,7 +142,7 @@ class BookCopy:
         return self.database
 
     def take_book(self, book: Columns) -> None:
-        """From now on the position can be looked at."""
+        """Keeps the columns of a book, so that its position can be shown from now on."""
         keep(self.policies_at(book.count), POLICIES, book.policies)
         keep(self.history_at(book.count), NAMES, history_of(book))
         keep(self.records_at(book.count), RECORDS, book.records)
@@ -159,7 +159,7 @@ class BookCopy:
         return os.path.join(self.folder, f"records-{position}")
 
     def policies(self, position: int) -> Policies:
-        """The policies of a position, as columns; raises Working while those of an earlier position are made."""
+        """Returns the policies of a position as columns, and raises Working while those of an earlier position are made."""
         path = self.policies_at(position)
         if position not in self.positions:
             title = f"the policies at position {position:,}"
@@ -174,23 +174,23 @@ class BookCopy:
         return KeptPolicies(path)
 
     def history(self, position: int) -> History:
-        """What the book was at each position up to this one."""
+        """Returns what the book was at each position up to this one."""
         return History(*(column[:position] for column in kept(self.history_at(self.newest), NAMES)))
 
     def records(self, position: int) -> Records:
-        """The postings up to a position."""
+        """Returns the postings up to a position."""
         return Records(*kept(self.records_at(self.newest), RECORDS)).front(position)
 
     # --- the journal and the basis as they are now ---
 
     def take_copy(self) -> None:
-        """Copies the prefix of the journal, as far as it goes now, and the basis."""
+        """Copies the journal's prefix up to its present count, and the basis."""
         demand(os.path.isfile(self.book.journal), f"{self.book.journal}: No such file or directory")
         demand_undamaged(self.book.journal)
         new = os.path.join(self.folder, "new")
         copy_prefix(self.book.journal, None, new)
         if prefix_count(new) is None:
-            # what is no plain journal has its reason told, and an unfinished creation is an empty one
+            # for a file that is not a plain journal the reason is reported; an unfinished creation counts as an empty journal
             count_of(bytes_of(new), self.book.journal)
             with open(new, "wb") as file:
                 file.write(EMPTY)
@@ -199,7 +199,10 @@ class BookCopy:
         self.made_at = datetime.datetime.now()
 
     def take_basis(self, name: str) -> TakenBasis:
-        """A basis of the book's folder as it is now, with its tables: the one that was taken already where it is the same."""
+        """Returns a copy of a basis of the book's folder, with its tables, in its present state.
+
+        If the same bytes were copied before, that earlier copy is returned.
+        """
         new = self.new_file()
         os.mkdir(new, 0o700)
         copy_basis(self.book.folder, name, new)
@@ -207,7 +210,7 @@ class BookCopy:
         for at, each in enumerate(self.bases):
             if (each.name, each.sum) == (name, found):
                 shutil.rmtree(new)
-                # the one that was taken last stands last
+                # the basis that was taken last is kept last in the list
                 self.bases.append(self.bases.pop(at))
                 return each
         os.symlink(os.path.join("..", JOURNAL), os.path.join(new, JOURNAL))
@@ -215,7 +218,7 @@ class BookCopy:
         return self.bases[-1]
 
     def behind(self) -> int:
-        """How many postings stand behind the newest position in the journal now."""
+        """Returns how many postings the journal now has after the newest position."""
         try:
             count = prefix_count(self.book.journal)
         except (Wrong, OSError):
@@ -223,11 +226,11 @@ class BookCopy:
         return max((count or 0) - self.newest, 0)
 
     def changes(self) -> list[str]:
-        """What isn't any more as it was taken, with what it was and what it is."""
+        """Returns what has changed since it was copied, with what it was and what it is."""
         return [says for says in (self.journal_change(), self.basis_change()) if says]
 
     def journal_change(self) -> str:
-        """Why the journal isn't the one any more that was copied, or nothing where that is its prefix."""
+        """Returns why the journal is no longer the one that was copied, or "" if the copy is its prefix."""
         count, was = self.newest, self.sum_at(self.newest)
         now = self.looked_at(f"journal {count}", lambda: [self.book.journal], lambda: prefix_sum(self.book.folder, count))
         if now == was:
@@ -245,7 +248,7 @@ class BookCopy:
                 f"{it_is(now)}. What is shown is by the basis as it was.")
 
     def looked_at(self, what: str, paths: Callable[[], list[str]], look: Callable[[], str]) -> str:
-        """What is seen of files, looked at anew where they were written since; or why nothing is seen."""
+        """Returns what `look` finds about files, looked up again if they were written since, or why nothing can be found."""
         try:
             stamp = stamp_of(*paths())
             seen = self.seen.get(what)
@@ -257,7 +260,10 @@ class BookCopy:
             return "it is shorter, or it is gone"
 
     def bring_up_to_date(self, job: Job) -> int:
-        """Takes what was posted since the copy was made, which has to be its prefix, and the basis as it is now."""
+        """Copies what was posted since and the present basis; the old copy must be a prefix of the new one.
+
+        Returns the position.
+        """
         first = self.newest
         job.at("copying the journal")
         change = self.journal_change()
@@ -272,7 +278,7 @@ class BookCopy:
 
     @contextmanager
     def lists(self, position: int) -> Iterator[sqlite3.Connection]:
-        """The policies of a position as a table; raises Working while that of an earlier position is made."""
+        """Opens the policies of a position as a table, and raises Working while the table of an earlier position is made."""
         path = self.database
         if position not in self.positions:
             title = f"the policies at position {position:,} as a list"
@@ -291,14 +297,14 @@ class BookCopy:
         return KeptList(path)
 
     def new_file(self) -> str:
-        """The name of a new private file; no word of a request is in it."""
+        """Returns the path of a new private file; it has no text from a request."""
         with self.counting:
             self.files += 1
             return os.path.join(self.folder, f"file-{self.files}")
 
     @contextmanager
     def desk_at(self, position: int, basis: TakenBasis) -> Iterator[str]:
-        """A private folder for a while with the prefix at a position and the basis."""
+        """Makes a temporary private folder with the prefix at a position and the basis."""
         folder = self.new_file()
         os.mkdir(folder, 0o700)
         try:
@@ -309,7 +315,7 @@ class BookCopy:
             shutil.rmtree(folder, ignore_errors=True)
 
     def forget(self, result: object) -> None:
-        """Removes the file or the folder of a result, which tells it by `path`."""
+        """Removes the file or the folder that a result names as its `path`."""
         path = getattr(result, "path", None)
         if path and os.path.dirname(path) == self.folder:
             if os.path.isdir(path):
@@ -318,11 +324,11 @@ class BookCopy:
                 os.remove(path)
 
     def kept(self, key: tuple[object, ...], title: str, work: Callable[[Job], object]) -> object:
-        """The result of some work."""
+        """Returns the result of some work, which is done only once for each key."""
         return self.jobs.asked(key, title, work)
 
     def without_paths(self, text: str) -> str:
-        """A text for a page, in which no path of this machine stands."""
+        """Returns a text for a page, without any path of this machine."""
         for path, name in ((self.book.journal, "journal.life"), (self.book.folder, self.name), (self.folder, "copy")):
             text = text.replace(path + os.sep, "").replace(path, name)
         return text

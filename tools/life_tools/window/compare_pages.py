@@ -1,4 +1,4 @@
-"""Two bases of one day side by side: the printed totals, what each group differs by, and one policy by both."""
+"""Compares two bases on one day: the printed totals, the difference of each group, and one policy by both bases."""
 from __future__ import annotations
 
 import os
@@ -20,7 +20,7 @@ from life_tools.window.views import View
 
 
 def other_in(book: View, asked: Asked) -> TakenBasis:
-    """The other basis, as it lies in the book's folder now."""
+    """Returns the other basis in its present state in the book's folder."""
     name = asked.text("other")
     if not NAME.fullmatch(name) or name not in book.other_bases():
         raise BadRequest(f"other: {shown(name) or 'nothing'} is no other basis in the book's folder")
@@ -30,7 +30,7 @@ def other_in(book: View, asked: Asked) -> TakenBasis:
 
 
 def bases(book: View, asked: Asked) -> Answer:
-    """The valuations of a day at a position by two bases, and the difference by group."""
+    """Returns the page with the valuations of a day at a position by two bases, and the difference for each group."""
     other = other_in(book, asked)
     one = asked_valuation(book, asked, "other", "number")
     two = kept_valuation(book.by_basis(other), one.on, one.measure)
@@ -60,7 +60,7 @@ Pair = tuple[str, Sums, Sums]
 
 
 def group_pairs(one: Valuation, two: Valuation, key: str) -> list[Pair]:
-    """The sums of each group by both bases; both have the same policies, so the same groups."""
+    """Returns the sums of each group by both bases. Both have the same policies, and therefore the same groups."""
     first, second = one.groups[key], two.groups[key]
     demand(first.keys() == second.keys(), f"the groups by {key} differ between the bases")
     return [(", ".join(STATUS_WORDS.get(each, each) for each in name), first[name], second[name]) for name in first]
@@ -70,7 +70,7 @@ Links = tuple[list[str], list[str]]
 
 
 def links_of(views: tuple[View, View], it: Valuation, key: str) -> Links:
-    """Of each group its policies, by the one basis and by the other."""
+    """Returns for each group the links to its policies, by the one basis and by the other."""
     first, second = ([view.link("group", on=it.on, measure=it.measure, by=key, group=",".join(name)) for name in it.groups[key]]
                      for view in views)
     return first, second
@@ -90,7 +90,7 @@ def pair_table(says: str, names: list[str], pairs: list[Pair], links: Links) -> 
 
 
 def pair_picture(names: list[str], pairs: list[Pair], says: str, links: Links) -> str:
-    """The reserves of the groups; a book without policies has none."""
+    """Returns a chart of the reserves of the groups, or "" if the book has no policies."""
     if not pairs:
         return ""
     series = [charts.Series(names[0], "c1", [one.bounds[-1] for _, one, _ in pairs], links[0]),
@@ -100,7 +100,7 @@ def pair_picture(names: list[str], pairs: list[Pair], says: str, links: Links) -
 
 
 def policy_pair(book: View, asked: Asked, one: Valuation, two: Valuation, names: list[str]) -> Table | None:
-    """The rows of one policy by both bases, where one is asked for."""
+    """Returns the rows of one policy by both bases if a policy is asked for, or else None."""
     number = asked.number("number", 1, MOST_NUMBER, 0)
     if not number:
         return None

@@ -1,4 +1,4 @@
-"""The day: what is due, by kind; each list as a page, as CSV and as lines to send, which somebody copies by hand."""
+"""Makes the pages of a day: what is due, by kind, and each list as a page, as CSV, and as lines to copy and send."""
 from __future__ import annotations
 
 from itertools import islice

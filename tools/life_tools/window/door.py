@@ -1,8 +1,8 @@
-"""The door of the window: who is let in, by which names and words, and the headers with which each answer goes out.
+"""Guards the window by `Door`: decides by host name, token and cookie which requests are let in, and sets the headers.
 
-It stands before everything else, so that a request is refused before any page, path or word of it is looked at. Every path
-begins with a prefix that is drawn for each window, to which alone the browser sends its cookie: another server of this
-machine, whatever its port, isn't shown it.
+It comes before everything else, so that a request is refused before any page, path or argument of it is examined. Every path
+begins with a random prefix of the window. The browser sends the cookie only to that prefix, so that another server on this
+machine, on whatever port, does not receive it.
 """
 from __future__ import annotations
 
@@ -21,9 +21,9 @@ Application = Callable[[Environment, StartResponse], Iterable[bytes]]
 Refused = tuple[int, str, list[tuple[str, str]]]
 
 TOKEN_BYTES = 16
-# a path with its words that is longer is no page's
+# a longer path with its query belongs to no page
 MOST_LETTERS = 1024
-# so many tokens are open at a time; a further one ends the oldest
+# at most so many tokens are open at a time; a further one invalidates the oldest
 MOST_OPEN = 16
 POLICY = ("default-src 'none'; style-src 'self'; img-src 'self'; form-action 'self'; base-uri 'none'; "
           "frame-ancestors 'none'")
@@ -37,13 +37,13 @@ def new_secret() -> str:
 
 
 def same(one: str, other: str) -> bool:
-    """Whether two secrets are equal, in a time that doesn't tell where they differ."""
+    """Returns whether two secrets are equal; the time that this takes does not show where they differ."""
     return hmac.compare_digest(one.encode("utf-8", "replace"), other.encode("utf-8", "replace"))
 
 
 @dataclass
 class Door:
-    """An application behind a door: the port tells by which names it is called, a token, which works once, who may come in."""
+    """An application behind its guard, with the port, which decides the valid host names, and tokens that each work once."""
 
     inside: Application
     port: int
@@ -58,7 +58,7 @@ class Door:
         return f"life-window-{self.port}"
 
     def invitation(self, page: str) -> str:
-        """The address of a page, beginning with the prefix, with a new token for whoever opens it first."""
+        """Returns the address of a page whose path begins with the prefix, with a new token for whoever opens it first."""
         token = new_secret()
         with self.turn:
             self.open_tokens = [*self.open_tokens[1 - MOST_OPEN:], token]
@@ -81,7 +81,7 @@ class Door:
         return [b"" if environ.get("REQUEST_METHOD") == "HEAD" else page]
 
     def refusal(self, environ: Environment) -> Refused | None:
-        """Why a request isn't let in, whoever sends it."""
+        """Returns why a request is refused whoever sends it, or None."""
         path = environ.get("PATH_INFO", "")
         if environ.get("HTTP_HOST") not in (f"127.0.0.1:{self.port}", f"localhost:{self.port}"):
             return 403, f"This window is called 127.0.0.1:{self.port} or localhost:{self.port}.", []
@@ -96,7 +96,8 @@ class Door:
         return None
 
     def exchange(self, environ: Environment) -> Refused | None:
-        """Whoever first brings the token gets the cookie for it, and an address without the token; others need the cookie."""
+        """Gives the cookie, and an address without the token, to whoever first brings a token; refuses others without the
+        cookie."""
         words = parse_qsl(environ.get("QUERY_STRING", ""), keep_blank_values=True)
         tokens = [text for name, text in words if name == "token"]
         if len(tokens) == 1:

@@ -1,4 +1,4 @@
-"""Tables that leave the window as files: CSV and workbooks, of which no cell begins a formula."""
+"""Makes the tables that leave the window as files, CSV and workbooks; no cell of them is a formula."""
 from __future__ import annotations
 
 import io
@@ -15,7 +15,7 @@ A_PART = 512
 
 
 def csv_parts(rows: Iterable[Sequence[str]]) -> Iterator[str]:
-    """The text of a CSV, part by part."""
+    """Yields the text of a CSV file, part by part."""
     left = iter(rows)
     while some := list(islice(left, A_PART)):
         out = io.StringIO()
@@ -24,7 +24,7 @@ def csv_parts(rows: Iterable[Sequence[str]]) -> Iterator[str]:
 
 
 def workbook(sheets: Sequence[tuple[str, Sequence[Sequence[str]]]]) -> bytes:
-    """A workbook of sheets; the first row of each is its head, and amounts are numbers."""
+    """Returns a workbook of sheets; the first row of each is its header, and amounts are numbers."""
     openpyxl = package("openpyxl", "python3-openpyxl")
     book = openpyxl.Workbook()
     book.remove(book.active)
@@ -43,7 +43,7 @@ def workbook(sheets: Sequence[tuple[str, Sequence[Sequence[str]]]]) -> bytes:
 
 
 def shape(openpyxl: Any, sheet: Any, rows: Sequence[Sequence[str]]) -> None:
-    """Columns as wide as what stands in them, a head that stays, and places of cents."""
+    """Sets the widths of columns, a header that stays in view, and two decimals for amounts."""
     for place in range(max((len(row) for row in rows), default=0)):
         widest = max(len(row[place]) for row in rows if len(row) > place)
         sheet.column_dimensions[openpyxl.utils.get_column_letter(place + 1)].width = min(max(widest * 1.3 + 2, 10), 60)
@@ -57,7 +57,8 @@ def shape(openpyxl: Any, sheet: Any, rows: Sequence[Sequence[str]]) -> None:
 
 
 def warned(file: File, why: str) -> File:
-    """A download whose numbers aren't the proved program's: its name says so, and a CSV has it as its last row."""
+    """Returns a download whose numbers were not printed by the proved program: its name says so, and a CSV has it as its last
+    row."""
     if file.kind != "text/csv":
         return replace(file, name=f"unproved-{file.name}")
     parts = [file.parts.decode("utf-8", "replace")] if isinstance(file.parts, bytes) else file.parts

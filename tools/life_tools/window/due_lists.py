@@ -1,4 +1,5 @@
-"""What is due on a day, by kind: found by `due` among the policies of a position, and kept for the pages of its lists."""
+"""Finds what is due on a day, by kind, among the policies of a position as `due` does, and keeps it for the pages of its
+lists."""
 from __future__ import annotations
 
 import datetime
@@ -15,7 +16,7 @@ from life_tools.window.jobs import Job
 from life_tools.window.kept_columns import keep, kept
 from life_tools.window.views import View
 
-# what the lines to send need beside the day: the amount
+# the kinds whose lines to send need an amount as well as the day
 WITH_AMOUNT = ("premium", "grace", "reinstate", "settle")
 KIND_OF = {"grace": "premium"}
 TITLES = {"premium": "Premiums due", "grace": "In the days of grace", "lapse": "To be lapsed", "mature": "Maturities",
@@ -33,7 +34,7 @@ SORTED = {"policy": "number", "day": "day", "until": "until", "amount": "cents"}
 
 @dataclass
 class DueOn:
-    """What is due: the folder with the items, and of each kind how many there are and their sum."""
+    """What is due: the folder with the items, and for each kind their number and their sum."""
 
     path: str
     day: datetime.date
@@ -41,7 +42,7 @@ class DueOn:
     sums: dict[str, tuple[int, int]]
 
     def items(self, what: str) -> Due:
-        """Those of a kind."""
+        """Returns the items of a kind."""
         found = Due(*kept(self.path, Due._fields))
         chosen = np.flatnonzero(found.what == WHATS.index(what))
         return Due(*(column[chosen] for column in found))
@@ -49,7 +50,7 @@ class DueOn:
 
 @dataclass(frozen=True)
 class Item:
-    """One item: the policy, the day, the last day or none, and cents."""
+    """One item: the policy, the day, the last day or None, and the cents."""
 
     policy: int
     day: datetime.date
@@ -59,7 +60,7 @@ class Item:
 
 
 def due_on(book: View, day: datetime.date, within: int) -> DueOn:
-    # what an earlier position needs is made first, and not within this piece of work
+    # what an earlier position needs is made first, and not as part of this work
     policies = book.policies()
     found = book.kept(("due", day, within, book.at), f"what is due on {day}", lambda job: made(book, policies, day, within, job))
     assert isinstance(found, DueOn)
@@ -92,7 +93,7 @@ def page_of(it: DueOn, what: str, sort: str, is_falling: bool, page: int, size: 
 
 
 def csv_rows(it: DueOn, what: str) -> Iterator[list[str]]:
-    """As `due` prints them."""
+    """Yields the rows as `due` prints them."""
     found = it.items(what)
     yield ["what", "policy", "day", "until", "amount"]
     for item in items_in(found, np.arange(len(found.what))):
@@ -100,7 +101,10 @@ def csv_rows(it: DueOn, what: str) -> Iterator[list[str]]:
 
 
 def lines_to_send(it: DueOn, what: str) -> Iterator[str]:
-    """The lines of a script; of a kind that brings or takes money they are true once the money has come or gone."""
+    """Yields lines of a script.
+
+    Lines of a kind that brings or takes money are true only once the money has come in or gone out.
+    """
     found = it.items(what)
     for item in items_in(found, np.lexsort((found.number, found.first))):
         amount = [money(item.cents)] if what in WITH_AMOUNT else []
@@ -112,6 +116,6 @@ def is_sent_as_it_stands(what: str) -> bool:
 
 
 def of_policy(policy: Policy, day: datetime.date) -> list[tuple[str, Item]]:
-    """What is due of one policy on a day."""
+    """Returns what is due for one policy on a day."""
     found = Items(policies_in([policy]), number_at(day), 0).find_all()
     return [(WHATS[what], item) for what, item in zip(found.what.tolist(), items_in(found, np.arange(len(found.what))))]

@@ -1,4 +1,4 @@
-"""What the first page shows: sums by months and years of a book's history, and what the program prints of year-ends."""
+"""Computes what the first page shows: sums by month and year of a book's history, and what the program prints for year-ends."""
 from __future__ import annotations
 
 import datetime
@@ -21,13 +21,13 @@ from life_tools.window.views import View
 
 MOST_YEARS, MONTHS_BEFORE, MONTHS_AHEAD = 12, 18, 3
 RECEIVED = (PREMIUM, REINSTATE)
-# a year-end's reserve is a mean one, as in a statement of a calendar year
+# a year-end's reserve is a mean reserve, as in a statement of a calendar year
 MEASURE = "mean"
 LAST_BYTES = 512
 
 
 class YearEnd(NamedTuple):
-    """A year's end that the postings reach: its position, and what is insured there."""
+    """The end of a year that the postings reach: its position, and what is insured at that position."""
 
     day: datetime.date
     position: int
@@ -37,7 +37,7 @@ class YearEnd(NamedTuple):
 
 @dataclass(frozen=True)
 class Figures:
-    """Sums by the labels of months and years, in cents."""
+    """Sums in cents by the labels of months and years."""
 
     year_ends: list[YearEnd]
     months: list[str]
@@ -49,7 +49,7 @@ class Figures:
 
 
 def month_of(days: Array) -> Array:
-    """The months of days, as numbers from January 1970."""
+    """Returns the months of days, as numbers counted from January 1970."""
     found: Array = days.astype("datetime64[D]").astype("datetime64[M]").astype(np.int64)
     return found
 
@@ -59,7 +59,7 @@ def label_of(month: int) -> str:
 
 
 def sums_in(codes: Array, first: int, count: int, cents: Cents) -> list[int]:
-    """The sums of the cents of so many codes from the first one on."""
+    """Returns the sums of the cents for `count` codes from the first one on."""
     mine = (codes >= first) & (codes < first + count)
     return added(codes[mine] - first, count, cents[mine])
 
@@ -67,7 +67,7 @@ def sums_in(codes: Array, first: int, count: int, cents: Cents) -> list[int]:
 # --- premiums ---
 
 class Installments(NamedTuple):
-    """Premiums by the day on which each was due: its cents; of a paid one the position that paid it, else the policy's place."""
+    """Premiums with the day on which each was due, its cents, and the position that paid it, or else the policy's place."""
 
     due: Array
     cents: Cents
@@ -76,7 +76,7 @@ class Installments(NamedTuple):
 
 
 def paid_installments(history: History) -> Installments:
-    """Those that were paid; a reinstatement pays several."""
+    """Returns the premiums that were paid; a reinstatement pays more than one."""
     at = np.flatnonzero(np.isin(history.kind, RECEIVED) & (history.paid > 0))
     count = history.paid[at].astype(np.int64)
     each = np.repeat(at, count)
@@ -87,7 +87,7 @@ def paid_installments(history: History) -> Installments:
 
 
 def unpaid_installments(of: Policies, until: int) -> Installments:
-    """Those of policies in force by their status that are due up to a day and aren't paid."""
+    """Returns the unpaid premiums, due up to a day, of policies that are in force by their status."""
     place = np.flatnonzero((of.status == INFORCE) & (of.due != NEVER) & (of.due <= until))
     count = missed(of.at(place), np.full(len(place), until, np.int32)).astype(np.int64)
     each = np.repeat(place, count)
@@ -97,13 +97,13 @@ def unpaid_installments(of: Policies, until: int) -> Installments:
 
 
 def installments(book: View, history: History, until: int) -> Installments:
-    """All premiums that fell due up to a day, or were paid, of policies in force or as far as they were paid."""
+    """Returns all premiums that were paid, and those of policies in force that fell due up to a day and are unpaid."""
     paid, unpaid = paid_installments(history), unpaid_installments(book.policies(), until)
     return Installments(*(np.concatenate([one, other]) for one, other in zip(paid, unpaid)))
 
 
 def month_ends(last: int) -> tuple[int, int, int]:
-    """The first and the count of the months that are shown, and the last day of these."""
+    """Returns the first month that is shown, the number of months, and the last day of the last one."""
     now = int(month_of(np.array([last]))[0])
     first, count = now - MONTHS_BEFORE + 1, MONTHS_BEFORE + MONTHS_AHEAD
     until = int((np.datetime64(first + count, "M").astype("datetime64[D]") - np.timedelta64(1, "D")).astype(np.int64))
@@ -113,7 +113,7 @@ def month_ends(last: int) -> tuple[int, int, int]:
 # --- all figures ---
 
 def year_ends_of(history: History, last: int) -> list[YearEnd]:
-    """The last year-ends that the postings reach."""
+    """Returns the last year-ends that the postings reach."""
     first = day_of_number(int(history.days().min())).year
     newest = day_of_number(last)
     newest_year = newest.year if (newest.month, newest.day) == (12, 31) else newest.year - 1
@@ -131,8 +131,8 @@ def day_of_number(number: int) -> datetime.date:
 
 
 def figures_of(book: View, on: datetime.date | None) -> Figures:
-    """The figures of a position, as it stood on a day or else on that of its last posting; raises Working while they are made."""
-    # what an earlier position needs is made first, and not within this piece of work
+    """Returns the figures of a position on a day, by default the day of its last posting; raises Working while they are made."""
+    # what an earlier position needs is made first, and not as part of this work
     book.policies()
     day = None if book.at == book.copy.newest else on
     found = book.copy.kept(("figures", book.at, day), "the figures of the first page", lambda job: made(book, day))
@@ -141,7 +141,7 @@ def figures_of(book: View, on: datetime.date | None) -> Figures:
 
 
 def made(book: View, on: datetime.date | None) -> Figures:
-    """Those up to the last posting's day; or up to a later one, by which nothing more was posted."""
+    """Returns the figures up to the day of the last posting, or up to a later day if nothing more was posted by then."""
     history = book.history()
     last = int(history.latest[-1]) if len(history) else int(NO_DAY)
     if last == NO_DAY:
@@ -151,7 +151,7 @@ def made(book: View, on: datetime.date | None) -> Figures:
     premiums = installments(book, history, until)
     is_received, months = np.isin(history.kind, RECEIVED), month_of(history.day)
     ends = year_ends_of(history, last)
-    # their addresses are tied to the journal up to there
+    # the addresses of these positions contain checksums of the journal up to them
     book.copy.sum_all([each.position for each in ends])
     years, claims, maturities = claims_by_year(history, last)
     return Figures(ends, [label_of(month) for month in range(first, first + count)],
@@ -160,7 +160,7 @@ def made(book: View, on: datetime.date | None) -> Figures:
 
 
 def claims_by_year(history: History, last: int) -> tuple[list[str], list[int], list[int]]:
-    """What was incurred by claims and by maturities, in each of the last years."""
+    """Returns what was incurred by claims and by maturities in each of the last years."""
     year = month_of(np.array([last]))[0] // 12
     first = year - MOST_YEARS + 1
     found = []
@@ -168,7 +168,7 @@ def claims_by_year(history: History, last: int) -> tuple[list[str], list[int], l
         mine = history.kind == kind
         found.append(sums_in(month_of(history.day[mine]) // 12, first, MOST_YEARS, history.booked[mine]))
     labels = [str(1970 + each) for each in range(first, first + MOST_YEARS)]
-    # years before the first one with anything are left out
+    # leave out the years before the first one with an amount
     begins = next((at for at in range(MOST_YEARS) if found[0][at] or found[1][at]), 0)
     return labels[begins:], found[0][begins:], found[1][begins:]
 
@@ -176,7 +176,7 @@ def claims_by_year(history: History, last: int) -> tuple[list[str], list[int], l
 # --- what the program prints of a year-end ---
 
 class Total(NamedTuple):
-    """A printed total: the bounds in cents, and how many rows have a word."""
+    """A printed total: the bounds in cents, and the number of rows with a word."""
 
     lower: int
     upper: int
@@ -185,7 +185,7 @@ class Total(NamedTuple):
 
 @dataclass(frozen=True)
 class Totals:
-    """The totals of some year-ends, none where one isn't there yet; what couldn't be had is told."""
+    """The totals of year-ends, None for one that is not there yet; `failure` says what went wrong."""
 
     found: list[Total | None]
     failure: str
@@ -196,7 +196,8 @@ class Totals:
 
 
 def totals_of(book: View, ends: Sequence[YearEnd]) -> Totals:
-    """The mean reserves of the year-ends, as far as they are there; the newest one that lacks is asked of the program."""
+    """Returns the mean reserves of the year-ends as far as they are known; the program is asked for the newest one that is
+    missing."""
     found, failure, is_asked = [], "", False
     for end in reversed(ends):
         key = book.basis.sum, "total", end.day, end.position
@@ -225,7 +226,7 @@ def total_of(book: View, on: datetime.date, job: Job) -> Total:
 
 
 def total_in(path: str) -> Total:
-    """The last line of a printed valuation."""
+    """Returns the total of the last line of a printed valuation."""
     with open(path, "rb") as file:
         file.seek(max(os.path.getsize(path) - LAST_BYTES, 0))
         fields = file.read().decode("ascii", "replace").splitlines()[-1].split(",")

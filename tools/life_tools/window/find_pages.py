@@ -1,4 +1,4 @@
-"""The lists of policies."""
+"""Makes the lists of policies."""
 from __future__ import annotations
 
 from typing import Any
@@ -23,7 +23,8 @@ def policy_cell(book: View, number: int | None) -> Cell:
 
 
 def find(book: View, asked: Asked) -> Answer:
-    """A list of policies; where one alone has the number, or the part of one, its page; one of exactly the number is told."""
+    """Returns a list of policies; if the number sought finds only one, its page; if a policy has exactly this number, a link to
+    it."""
     asked.only(("at", *WORDS))
     sought = sought_in(asked)
     with book.lists() as database:

@@ -1,4 +1,4 @@
-"""The first page: what the book is in pictures, each of which leads to the list behind it, and what waits for a person."""
+"""Makes the first page: charts of the book, each a link to the list behind it, and what waits for a person."""
 from __future__ import annotations
 
 from typing import NamedTuple, Sequence
@@ -18,13 +18,13 @@ from life_tools.window.standing import waiting_in
 from life_tools.window.views import View
 
 NEWEST = 8
-# after so many seconds the page comes anew, while year-ends are still being valued
+# the page reloads after so many seconds while year-ends are still being valued
 REFRESH = 2
 COLOURS = {"inforce": "c1", "paidup": "c2", "lapsed": "c5", "claimed": "c4", "matured": "c3", "expired": "c6", "settled": "c7"}
 
 
 class Picture(NamedTuple):
-    """A chart with its heading, what is said of it, and the table behind it."""
+    """A chart with its heading, a sentence about it, and the table behind it."""
 
     title: str
     says: str
@@ -34,7 +34,7 @@ class Picture(NamedTuple):
 
 
 def first_page(book: View, asked: Asked) -> Answer:
-    """What is in the book, in pictures; the reserves of year-ends are asked of the program one by one."""
+    """Returns the page with the charts of the book; the program is asked for the reserves of year-ends one by one."""
     asked.only(("at", "on"))
     on = asked.day_or_none("on")
     figures, kinds = figures_of(book, on), kinds_of(book.policies())
@@ -117,7 +117,7 @@ def headroom_gauge(book: View) -> str:
 
 
 def waiting_table(book: View, due: DueOn) -> Table:
-    """What waits for a person: rows held back, refusals of the last runs, and what is past its grace."""
+    """Returns what waits for a person: held rows, refusals of the last runs, and policies past their grace."""
     held, refused = waiting_in(book.listed.folder)
     lapses, cents = due.sums.get("lapse", (0, 0))
     rows = [[Cell("rows held back", book.link("held") if held else ""), Cell("Rows of scripts that a person has to look at."),

@@ -1,7 +1,7 @@
-"""One row of a valuation as mathematics that reads well: the formulas of `why` with their numbers, in MathML.
+"""Shows one row of a valuation as mathematical formulas in MathML: those of `why`, with their numbers.
 
-The numbers are worked out exactly by the arithmetic of `why`, and set beside the printed row. They are added by the window,
-and are no reserve of the program's.
+The numbers are computed exactly as by `why`, and shown beside the printed row. The window adds them; they are not reserves that
+the program printed.
 """
 from __future__ import annotations
 
@@ -20,14 +20,14 @@ from life_tools.reserves.worked_rows import WORDS, Worked, cents_about, decimal
 
 
 class Line(NamedTuple):
-    """A step: what is worked out, and its formulas as MathML, from the letters to the result."""
+    """A step: what is computed, and its formulas as MathML, from the letters to the result."""
 
     says: str
     formulas: list[str]
 
 
 class Explained(NamedTuple):
-    """A row worked out: steps, the rates that enter, and the line that sets the printed row beside; 0 where it holds."""
+    """A row worked out: steps, the rates used, and the comparison with the printed row; the status is 0 if they agree."""
 
     lines: list[Line]
     rates: list[tuple[int, int, str]]
@@ -73,7 +73,7 @@ def annuity(index: str) -> str:
 
 
 def of(name: str, *parts: str) -> str:
-    """A function of something, as min(a, b)."""
+    """Returns a function of some arguments, such as min(a, b)."""
     inner = "<mo>,</mo>".join(parts)
     return row(f"<mi mathvariant=\"normal\">{name}</mi>", sign("("), inner, sign(")"))
 
@@ -83,7 +83,7 @@ def math(*parts: str) -> str:
 
 
 def equal(*sides: str) -> list[str]:
-    """A chain of equations, each on a line of its own, so that it reads on a narrow screen."""
+    """Returns a chain of equations, each on its own line, so that it can be read on a narrow screen."""
     first, *others = sides
     return [math(first, sign("="), others[0]), *(math(sign("="), side) for side in others[1:])]
 
@@ -101,7 +101,7 @@ LIMIT = sub("P", "<mn>19</mn>")
 # --- the steps ---
 
 class Steps:
-    """The steps of one policy on one day."""
+    """The steps for one policy on one day."""
 
     def __init__(self, policy: Policy, terms: Terms, insured: Insured, year: int) -> None:
         self.policy, self.terms, self.insured, self.year = policy, terms, insured, year
@@ -217,13 +217,13 @@ def basis_words(basis: Sequence[BasisRow], policy: Policy) -> str:
 
 
 def rates_of(policy: Policy, terms: Terms, insured: Insured) -> list[tuple[int, int, str]]:
-    """Year, age and rate."""
+    """Returns rows of year, age and rate."""
     return [(year, policy.age + year, decimal(insured.cover.rates[year])) for year in range(terms.years)]
 
 
 def explained(policy: Policy, position: int, on: datetime.date, basis: Sequence[BasisRow], measure: str,
               printed: ValuedRow) -> Explained:
-    """The row worked out anew, beside the printed one."""
+    """Returns the row worked out independently, compared with the printed row."""
     worked = Worked(policy, position, on, basis, measure)
     status, line = compared(worked, printed)
     words = basis_words(basis, policy)

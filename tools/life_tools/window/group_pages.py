@@ -1,4 +1,4 @@
-"""The policies behind a cell: of a group of a report, of a line of a movement; they add up to what the cell shows."""
+"""Lists the policies behind a cell of a report's group or of a movement's line; they add up to what the cell shows."""
 from __future__ import annotations
 
 import csv
@@ -19,7 +19,7 @@ from life_tools.window.views import View, paged_words, turns
 
 
 def paged(asked: Asked, count: int) -> tuple[int, int, slice]:
-    """The page that is asked for, how many there are, and the rows of it."""
+    """Returns the page that is asked for, the number of pages, and the rows of the page."""
     pages = max(-(-count // A_PAGE), 1)
     page = asked.number("page", 1, pages, 1)
     return page, pages, slice((page - 1) * A_PAGE, page * A_PAGE)
@@ -28,7 +28,7 @@ def paged(asked: Asked, count: int) -> tuple[int, int, slice]:
 # --- a group of a report ---
 
 def group(book: View, asked: Asked) -> Answer:
-    """The policies of a group, each with its printed row; in all as much as the group's cells show."""
+    """Returns the policies of a group, each with its printed row; together they add up to the group's cells."""
     key = asked.one_of("by", KEYS, "plan")
     it = asked_valuation(book, asked, "by", "group", "page")
     name = tuple(asked.text("group").split(","))
@@ -67,7 +67,7 @@ def group_total(it: Valuation, places: Array, amount: int) -> list[Cell]:
 # --- a line of a movement ---
 
 def moved(book: View, asked: Asked) -> Answer:
-    """The policies of a line of a movement, with their parts, as `movement --policies` writes them."""
+    """Returns the policies of a line of a movement with their parts, as `movement --policies` writes them."""
     line = asked.one_of("line", LINES)
     run, words = asked_movement(book, asked, "line", "page")
     with open(run.file("policies.csv"), encoding="utf-8", newline="") as file:
@@ -92,7 +92,7 @@ LINES = (ISSUES, *BY_KIND.values(), TIME, BASIS)
 
 
 def parts_of(head: Sequence[str], line: str) -> list[int]:
-    """The columns of a line's part."""
+    """Returns the columns of a line's part."""
     part = {TIME: "time", BASIS: "basis"}.get(line, "posted")
     return [head.index(f"{part} {bound}") for bound in ("lower", "upper")]
 

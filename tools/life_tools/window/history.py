@@ -1,7 +1,7 @@
-"""What a book was at each of its positions, as columns: the latest day up to there, what was insured, and what was booked.
+"""Keeps columns of what a book was at each of its positions: the latest day so far, what was insured, and what was booked.
 
-A column has a value for each posting, in their order, so that what holds at a position is found without reading the postings
-before it once more.
+A column has one value for each posting, in their order, so that a value at a position is found without reading the earlier
+postings again.
 """
 from __future__ import annotations
 
@@ -15,18 +15,21 @@ from life_tools.journal.policy_columns import is_insured
 from life_tools.journal.records import ALTER, CLAIM, ISSUE, LAPSE, MATURE, PAIDUP, PREMIUM, REINSTATE
 from life_tools.journal.replays import stable_order
 
-# what a posting makes of a policy's cover: insured from now on, or no longer; every other one leaves it as it is
+# the kinds of postings after which a policy is insured, and those after which it no longer is; other kinds do not change this
 BEGINS, ENDS = (ISSUE, REINSTATE), (LAPSE, CLAIM, MATURE)
 SETS_AMOUNT, SETS_PREMIUM = (ISSUE, ALTER, PAIDUP), (ISSUE, ALTER)
-# no day is so early: of an upgrade, which has none
+# earlier than every day; used for an upgrade, which has no day
 NO_DAY = np.int32(-2**31)
 
 
 @dataclass(frozen=True)
 class History:
-    """Of each position: the latest day up to it; its policy's place; the kind of its posting, its day, the cents that it
-    booked; how many premiums it pays, and the day on which the first of them was due; and of all policies the number and the
-    amount insured after it."""
+    """The columns of a book's history, with one value for each position.
+
+    They are: the latest day so far; the policy's place; the kind of the posting, its day, and the cents that it booked; how many
+    premiums it paid, and the day on which the first of them was due; the number of insured policies and the amount insured after
+    it.
+    """
 
     latest: Array
     place: Array
@@ -42,38 +45,41 @@ class History:
         return len(self.kind)
 
     def days(self) -> Array:
-        """The days of the postings that have one."""
+        """Returns the days of the postings that have one."""
         found: Array = self.day[self.day != NO_DAY]
         return found
 
     def position_on(self, day: int) -> int:
-        """The last position up to which every posting is of the day or of one before."""
+        """Returns the last position up to which every posting is of the day or an earlier one."""
         return int(np.searchsorted(self.latest, day, "right"))
 
 
 def carried(values: Array, is_set: Array, begins: Array) -> Array:
-    """Of each row the value of the last row that sets one, in rows that stand policy by policy and begin with one that does."""
+    """Returns for each row the value of the last row that sets one.
+
+    The rows are sorted by policy, and each policy begins with a row that sets a value.
+    """
     at = np.where(is_set | begins, np.arange(len(values), dtype=np.int32), 0)
     found: Array = values[np.maximum.accumulate(at)]
     return found
 
 
 def before(values: Array, begins: Array) -> Array:
-    """Of each row the value of the row before it, or 0 where it is its policy's first."""
+    """Returns for each row the value of the row before it, or 0 for the first row of a policy."""
     found: Array = np.concatenate([values[:1] * 0, values[:-1]])
     found[begins] = 0
     return found
 
 
 def added_within(values: Array, begins: Array) -> Array:
-    """Of each row the sum of the values before it of the same policy."""
+    """Returns for each row the sum of the earlier values of the same policy."""
     total = np.cumsum(values, dtype=np.int64) - values
     found: Array = total - carried(total, begins, begins)
     return found
 
 
 def history_of(book: Columns) -> History:
-    """The history of a book; at its end as much is insured as its policies say."""
+    """Returns the history of a book, and checks that what is insured at its end equals what its policies say."""
     records = book.records
     day = np.where(book.place >= 0, records.day, NO_DAY)
     lives, insured = np.zeros(book.count, np.int32), np.zeros(book.count, np.int64)
@@ -97,7 +103,7 @@ def history_of(book: Columns) -> History:
 
 
 def demand_same(found: History, book: Columns) -> None:
-    """Demands that what was added up posting by posting is what the policies say in the end."""
+    """Raises Wrong unless the sums over all postings equal what the policies say at the end."""
     is_covered = is_insured(book.policies)
     wanted = int(np.count_nonzero(is_covered)), int(book.policies.amount[is_covered].sum())
     made = (int(found.lives[-1]), int(found.insured[-1])) if len(found) else (0, 0)

@@ -1,4 +1,4 @@
-"""Work that takes longer than a page may: one piece at a time, with its progress, and its result kept for the next asker."""
+"""Does work that takes longer than a page may: one piece at a time, with its progress; results are kept for later requests."""
 from __future__ import annotations
 
 import threading
@@ -9,11 +9,11 @@ from typing import Any, Callable, Hashable
 from life_tools.common.formats import Wrong
 
 MOST_WAITING = 8
-# an answer that is there within so many seconds is shown at once
+# a result that is ready within so many seconds is shown at once
 AT_ONCE = 0.3
 
 
-# so many results are kept that have no file of their own
+# number of results without a file that are kept
 MOST_SMALL = 400
 
 
@@ -22,15 +22,15 @@ def has_file(result: object) -> bool:
 
 
 class TooMuch(Wrong):
-    """More is asked than is done at a time."""
+    """More is asked for than can wait at a time."""
 
 
 class Failed(Wrong):
-    """A piece of work couldn't be done; the text says why."""
+    """A piece of work could not be done; the text says why."""
 
 
 class Working(Exception):
-    """The answer isn't there yet."""
+    """The result is not ready yet."""
 
     def __init__(self, job: Job) -> None:
         super().__init__(job.title)
@@ -38,7 +38,7 @@ class Working(Exception):
 
 
 class Job:
-    """A piece of work: how far it is, and its result or why there is none."""
+    """A piece of work: how far it is, and its result, or why there is none."""
 
     def __init__(self, key: Hashable, title: str, work: Callable[[Job], Any]) -> None:
         self.key, self.title, self.work = key, title, work
@@ -70,7 +70,7 @@ class Job:
 
 
 class Jobs:
-    """One worker, those who wait for it, and the newest results; what falls out is thrown away by `forget`."""
+    """One worker thread, the jobs that wait for it, and the newest results; results that are dropped are passed to `forget`."""
 
     def __init__(self, most_kept: int, forget: Callable[[Any], None]) -> None:
         self.most_kept, self.forget = most_kept, forget
@@ -88,9 +88,9 @@ class Jobs:
             self.throw_away()
 
     def throw_away(self) -> None:
-        """Forgets the results that were asked for longest ago, where there are too many."""
+        """Drops the results that were used least recently if there are too many."""
         with self.changed:
-            # what the whole window rests on has a name alone, and isn't counted
+            # results on which the whole window depends have a plain name as key, and are not counted
             ended = [key for key, job in self.known.items() if job.ended.is_set() and not isinstance(key, str)]
             large = [key for key in ended if has_file(self.known[key].result)]
             small = [key for key in ended if not has_file(self.known[key].result)]
@@ -101,7 +101,7 @@ class Jobs:
                 self.forget(job.result)
 
     def job(self, key: Hashable, title: str, work: Callable[[Job], Any]) -> Job:
-        """The work of this key, begun now where it isn't known."""
+        """Returns the job of this key; if it is not known, it is added to the queue."""
         with self.changed:
             job = self.known.get(key)
             if job is None:
@@ -115,7 +115,10 @@ class Jobs:
         return job
 
     def asked(self, key: Hashable, title: str, work: Callable[[Job], Any]) -> Any:
-        """The result of the work; raises Working where it takes longer, and Failed, once, where it couldn't be done."""
+        """Returns the result of the work.
+
+        Raises Working if it takes longer, and Failed, once, if it could not be done.
+        """
         job = self.job(key, title, work)
         if not job.ended.wait(AT_ONCE):
             raise Working(job)
@@ -126,12 +129,12 @@ class Jobs:
         return job.result
 
     def look(self, key: Hashable) -> Job | None:
-        """The work of this key, where it was begun."""
+        """Returns the job of this key, or None if it was never begun."""
         with self.changed:
             return self.known.get(key)
 
     def is_known(self, key: Hashable) -> bool:
-        """Whether the result is there already."""
+        """Returns whether the result is ready."""
         with self.changed:
             job = self.known.get(key)
         return job is not None and job.ended.is_set() and not job.failure

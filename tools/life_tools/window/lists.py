@@ -1,4 +1,4 @@
-"""Lists of policies: what is looked for, by what they are sorted, and a page of fifty of them."""
+"""Finds lists of policies by conditions, in an order, fifty on a page."""
 from __future__ import annotations
 
 import sqlite3
@@ -21,7 +21,7 @@ MOST_DIGITS = 10
 
 @dataclass(frozen=True)
 class Sought:
-    """What is looked for; empty what doesn't matter."""
+    """What is looked for; an empty field means any."""
 
     number: str
     issued_from: str
@@ -33,7 +33,7 @@ class Sought:
     page: int
 
     def words(self) -> dict[str, str]:
-        """As the words of a request."""
+        """Returns the conditions as arguments of a request."""
         found = {"number": self.number, "from": self.issued_from, "to": self.issued_to, "plan": self.plan, "status": self.status,
                  "sort": self.sort if self.sort != "policy" else "", "order": "down" if self.is_falling else "",
                  "page": str(self.page) if self.page > 1 else ""}
@@ -42,7 +42,7 @@ class Sought:
 
 @dataclass(frozen=True)
 class Found:
-    """A page of a list: its rows, and how many there are of all."""
+    """A page of a list: its rows, and the number of all rows."""
 
     rows: list[sqlite3.Row]
     count: int
@@ -61,7 +61,7 @@ def sought_in(asked: Asked) -> Sought:
 
 
 def condition(sought: Sought, position: int) -> tuple[str, list[Any]]:
-    """What holds of the rows; the words of a request are parameters alone."""
+    """Returns the condition of a query and its parameters; texts of a request are only ever parameters."""
     parts, given = ["since <= ?", "until > ?"], [position, position]
     values: list[Any] = list(given)
     if sought.number:
@@ -76,14 +76,17 @@ def condition(sought: Sought, position: int) -> tuple[str, list[Any]]:
 
 
 def made_order(database: sqlite3.Connection, column: str) -> str:
-    """Says to go by this column's order, which is quicker than to sort. It is made behind the first page, so it may lack."""
+    """Returns the clause that uses an index on this column, or "".
+
+    The indexes are made after the first page is shown, so one may not exist yet.
+    """
     name = f"policy_by_{column}"
     made = database.execute("select 1 from sqlite_master where type = 'index' and name = ?", (name,)).fetchone()
     return f"indexed by {name}" if made else ""
 
 
 def found_in(database: sqlite3.Connection, sought: Sought, position: int) -> Found:
-    """The page; one behind the middle of a long list is read from its end, which is as quick as its beginning."""
+    """Returns a page; a page in the second half of a long list is read from the end, which is as fast as from the beginning."""
     where, values = condition(sought, position)
     count: int = database.execute(f"select count(*) from policy where {where}", values).fetchone()[0]
     pages = max(-(-count // A_PAGE), 1)
@@ -95,7 +98,7 @@ def found_in(database: sqlite3.Connection, sought: Sought, position: int) -> Fou
     column, way = SORTED[sought.sort], "desc" if falling else "asc"
     order = f"{column} {way}" if column == "policy" else f"{column} {way}, policy {way}"
     skipped = count - begin - size if is_back else begin
-    # of the rows that are passed over only their places are read
+    # only the rowids of skipped rows are read
     places = f"select rowid from policy {made_order(database, column)} where {where} order by {order} limit ? offset ?"
     rows = database.execute(f"select * from policy where rowid in ({places}) order by {order}", [*values, size, skipped])
     found = rows.fetchall()
@@ -108,7 +111,7 @@ def has_policy(database: sqlite3.Connection, number: int, position: int) -> bool
 
 
 class Kind(NamedTuple):
-    """Policies of a plan and a status: how many there are, and their amounts."""
+    """Policies of one plan and status: their number, and their amounts."""
 
     plan: str
     status: str
@@ -117,7 +120,7 @@ class Kind(NamedTuple):
 
 
 def kinds_of(policies: Policies) -> list[Kind]:
-    """The policies by plan and status, as far as there are any."""
+    """Returns the number of policies and their amounts by plan and status, if there are any."""
     code = policies.plan.astype(np.int64) * (len(STATUSES) + 1) + policies.status
     most = (len(PLANS) + 1) * (len(STATUSES) + 1)
     counts, cents = np.bincount(code, minlength=most).tolist(), added(code, most, policies.amount)

@@ -1,4 +1,5 @@
-"""Any day: an address leads from a day to its position, and a line of year-ends and month-ends stands on every page."""
+"""Lets every page go to any day: an address leads from a day to its position, and each page has a line of year- and
+month-ends."""
 from __future__ import annotations
 
 import datetime
@@ -9,10 +10,10 @@ from life_tools.window.asked import Asked, BadRequest, shown
 from life_tools.window.parts import Answer, Elsewhere
 from life_tools.window.views import View
 
-# the word by which a page takes the day that is looked at
+# the name of the argument with which a page takes the day
 DAY_WORDS = {"": "on", "policy": "day", "day": "day", "day/list": "day", "report": "on", "month": "on", "audit": "on",
              "sample": "on", "group": "on", "bases": "on", "movement": "on2", "statement": "on2"}
-# what a page is of beside the moment, and keeps when that changes
+# the arguments that a page keeps if another day is chosen
 KEPT = {"policy": ("number", "measure"), "day": ("within",), "day/list": ("within", "what"), "report": ("measure",),
         "month": ("before",), "audit": ("before",), "sample": ("count", "seed", "by", "measure"), "bases": ("other", "measure"),
         "movement": ("on1", "p1", "measure"), "statement": ("on1", "p1", "measure"),
@@ -21,7 +22,7 @@ MOST_YEARS = 16
 
 
 class Stop(NamedTuple):
-    """A place of the line: what it says, the day it leads to, and whether it is the one that is shown."""
+    """An entry of the timeline: its text, the link to its day, and whether it is the one that is shown."""
 
     says: str
     link: str
@@ -30,7 +31,7 @@ class Stop(NamedTuple):
 
 
 class Timeline(NamedTuple):
-    """The year-ends of the book, the month-ends of the year that is shown, and the day that is looked at."""
+    """The year-ends of the book, the month-ends of the year that is shown, and the day that is shown."""
 
     years: list[Stop]
     months: list[Stop]
@@ -40,7 +41,7 @@ class Timeline(NamedTuple):
 
 
 def moment_of(book: View, asked: Asked) -> Answer:
-    """Leads to the page as it stood at the end of a day."""
+    """Redirects to the page as of the end of a day."""
     page = asked.text("page")
     names = ("at", "asof", "page", *KEPT.get(page, ()))
     asked.only(names)
@@ -60,7 +61,7 @@ def moment_of(book: View, asked: Asked) -> Answer:
 
 
 def timeline(book: View, name: str, asked: Asked) -> Timeline:
-    """The line of a page; one that is of no moment leads to the book."""
+    """Returns the timeline of a page; on a page that has no day, it leads to the book's first page."""
     page = name if name in KEPT else ""
     kept = [(word, asked.text(word)) for word in KEPT.get(page, ()) if asked.text(word)]
     shown_day = asked.text(DAY_WORDS[page]) if page in DAY_WORDS else ""
@@ -90,7 +91,7 @@ def day_in(text: str) -> datetime.date | None:
 
 
 def first_day(book: View) -> datetime.date | None:
-    """The day of the first posting that has one."""
+    """Returns the day of the first posting that has one."""
     days = book.history().days()
     return day_at(int(days[0])) if len(days) else None
 

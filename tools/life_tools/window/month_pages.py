@@ -1,4 +1,5 @@
-"""The month and the year: positions of days, reports and movements, each beside the printed total that it adds up to."""
+"""Makes the pages of months and years: positions of days, reports and movements, each with the printed total that it must
+equal."""
 from __future__ import annotations
 
 import datetime
@@ -39,7 +40,7 @@ KEY_WORDS = {"plan": "plan", "status": "status", "issue-year": "year of issue", 
 # --- which day, and at which position ---
 
 def month(book: View, asked: Asked) -> Answer:
-    """A day is chosen, its position is told, and what can be asked of both."""
+    """Returns the page on which a day is chosen, with its position and what can be asked of both."""
     asked.only(("at", "on", "before"))
     on = asked.day("on", year_end_before(book.day))
     before = asked.day("before", datetime.date(max(on.year - 1, 1900), 12, 31))
@@ -54,7 +55,7 @@ def month(book: View, asked: Asked) -> Answer:
 
 
 def year_end_before(newest: str | None) -> datetime.date:
-    """The last year's end that the postings reach."""
+    """Returns the last end of a year that the postings reach."""
     year = datetime.date.fromisoformat(newest).year - 1 if newest else datetime.date.today().year - 1
     return datetime.date(max(year, 1900), 12, 31)
 
@@ -88,7 +89,7 @@ def group_table(book: View, it: Valuation, key: str) -> Table:
 
 
 def printed_row(it: Valuation) -> list[Cell]:
-    """The total as the program printed it; it prints no amount insured."""
+    """Returns the row of the total that the program printed; the program prints no amount insured."""
     return [Cell("printed by life"), *cells((it.policies, "", "", *map(money, it.total), it.words, ""))]
 
 
@@ -108,7 +109,7 @@ def report(book: View, asked: Asked) -> Answer:
 
 
 def facts(it: Valuation) -> list[tuple[str, str, bool]]:
-    """The headline figures, and whether the program printed each."""
+    """Returns the main figures, and whether the program printed each of them."""
     found = [("policies", f"{it.policies:,}", True), ("amount insured", money(it.whole.amount), False)]
     found += [(name, money(cents), True) for name, cents in zip(HEADS[len(it.total)], it.total)]
     return [*found, ("policies without a value, in no sum", f"{it.words:,}", True)]
@@ -119,7 +120,7 @@ def file_name(it: Valuation) -> str:
 
 
 def report_rows(it: Valuation) -> list[list[str]]:
-    """As `report --csv` writes them."""
+    """Returns the rows as `report --csv` writes them."""
     rows = [["by", "group", *column_names(it)]]
     for key, groups in it.groups.items():
         rows += [[key, ",".join(name), *sums.cells()] for name, sums in groups.items()]
@@ -132,7 +133,7 @@ def report_csv(book: View, asked: Asked) -> Answer:
 
 
 def report_xlsx(book: View, asked: Asked) -> Answer:
-    """A sheet for each grouping, and one that tells of what the workbook is."""
+    """Returns a workbook with a sheet for each grouping, and one that says what the workbook is of."""
     it = asked_valuation(book, asked)
     sheets = [("about", about(book, it))]
     for key, groups in it.groups.items():
@@ -149,7 +150,7 @@ def about(book: View, it: Valuation) -> list[list[str]]:
 
 
 def origin_of(book: View) -> list[list[str]]:
-    """Journal, program, tools and moment."""
+    """Returns rows about the journal, the program, the tools and the time."""
     facts = provenance(book.desk, book.at, book.name)
     return [[name, says] for name, says in facts.items() if name != "book"] + [["tools", revision()]]
 
@@ -157,7 +158,7 @@ def origin_of(book: View) -> list[list[str]]:
 # --- a movement ---
 
 def asked_movement(book: View, asked: Asked, *more: str) -> tuple[ToolRun, list[str]]:
-    """A run of `movement`, which ends with 1 where it doesn't add up, and then prints nothing; and the words that ask for it."""
+    """Runs `movement` and returns the run with its arguments; it ends with 1 and prints nothing if the lines do not add up."""
     asked.only((*MOVEMENT_WORDS, *more))
     days = [asked.day_or_none(name) for name in ("on1", "on2")]
     if None in days:
@@ -176,7 +177,7 @@ MOVED = re.compile(r"(.*?) {2,}([0-9]+) {2,}(-?[0-9.]+) {2,}(-?[0-9.]+)")
 
 
 def moved_rows(run: ToolRun) -> tuple[list[list[str]], list[str]]:
-    """The lines of the analysis, and what is said behind them."""
+    """Returns the lines of the analysis, and the notes that follow them."""
     rows, said = [], []
     for line in run.printed.splitlines()[2:]:
         parts = MOVED.fullmatch(line)
@@ -203,7 +204,7 @@ def movement(book: View, asked: Asked) -> Answer:
     table = Table("What moved", heads(("line", "policies", *(column.name for column in BY_BOUNDS))), moved[:-1],
                   [moved[-1], [Cell("printed by life"), *cells((valuation.policies, *map(money, valuation.total)))]])
     added = [sum(cents_of(row[place]) for row in rows[:-1]) for place in (2, 3)]
-    # beside an axis of the reserve its ends need no second word
+    # the axis names the reserve, so its two ends do not repeat the word
     axes = charts.Axes("line of the movement", [row[0].removesuffix(" reserve") for row in rows], "reserve")
     says = f"The reserve from {opening[3]} on {on1} to {closing[3]} on {on2}, line by line"
     moves = [cents_of(row[3]) for row in between]

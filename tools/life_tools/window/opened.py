@@ -1,4 +1,4 @@
-"""The window opened: a private folder, the door, a server on the loopback, and all of it put away at the end."""
+"""Opens the window, with a private folder, the guard (`Door`) and a server on the loopback, and cleans up at the end."""
 from __future__ import annotations
 
 import fcntl
@@ -34,7 +34,7 @@ TRIES = 100
 
 
 def tell_progress(book: BookCopy) -> None:
-    """How far the opening of the first book is, on the terminal; it is told where the book can't be opened."""
+    """Shows the progress of opening the first book on the terminal, and prints a remark if it cannot be opened."""
     progress = Progress(f"opening {book.book.name}")
     while True:
         try:
@@ -52,7 +52,7 @@ def tell_progress(book: BookCopy) -> None:
 
 
 class Ended(Exception):
-    """Somebody ends the window."""
+    """A signal ends the window."""
 
 
 def ended(_: int, __: FrameType | None) -> None:
@@ -61,7 +61,7 @@ def ended(_: int, __: FrameType | None) -> None:
 
 @contextmanager
 def private_folder() -> Iterator[str]:
-    """A folder for the window alone, locked as long as it is open; what a killed window left of such is taken away."""
+    """Makes a folder for this window alone, locked while it is open; folders left by killed windows are removed."""
     place = tempfile.gettempdir()
     remove_left(place, WINDOW)
     private = tempfile.mkdtemp(prefix=WINDOW, dir=place)
@@ -77,10 +77,10 @@ def private_folder() -> Iterator[str]:
 
 
 def browse(books: list[ListedBook], port: int) -> int:
-    """Serves until it is ended."""
+    """Serves the window until a signal ends it."""
     for module, debian in PACKAGES:
         package(module, debian)
-    # from now on nothing is begun anew, but what a page lacks is told in it
+    # from now on the process does not restart; what a page lacks is reported on it
     os.environ[ANEW] = "1"
     for number in ENDS:
         signal.signal(number, ended)
@@ -95,7 +95,7 @@ def browse(books: list[ListedBook], port: int) -> int:
 
 
 def put_away(private: str) -> None:
-    """Removes the private folder, also where something is just being written into it."""
+    """Removes the private folder, even while something is being written into it."""
     for _ in range(TRIES):
         end_all()
         shutil.rmtree(private, ignore_errors=True)
@@ -106,7 +106,7 @@ def put_away(private: str) -> None:
 
 
 def hand_over(address: str, private: str) -> None:
-    """Gives the address, which holds the key, to a terminal or to a file that its owner alone reads."""
+    """Prints the address, which contains a key, to a terminal, or puts it into a file that only its owner can read."""
     if not sys.stdout.isatty():
         kind = os.fstat(sys.stdout.fileno()).st_mode
         if stat.S_ISREG(kind):
@@ -120,13 +120,13 @@ def hand_over(address: str, private: str) -> None:
 
 
 def serve(listed: list[ListedBook], port: int, private: str, program: Program) -> None:
-    # the port is known once it is bound, and the door has to know it
+    # the port is known only once it is bound, and the guard needs it
     door = Door(lambda environ, start: [], port)
     books = [BookCopy(number, book, private, list(program.words), door.prefix) for number, book in enumerate(listed, 1)]
     server = served(door, port)
     door.port = server.server_port
     door.inside = Site(books, door, program).application
-    # a window stays open for days, and each request leaves cycles
+    # a window may stay open for days, and each request leaves reference cycles
     gc.enable()
     hand_over(door.invitation(f"{door.prefix}/"), private)
     remark("The window is open. Its address contains a key that works once, in a browser on this machine. Ctrl-C closes the "

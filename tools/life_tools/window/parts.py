@@ -1,4 +1,4 @@
-"""What pages are made of: answers, tables with their heads and cells, links to other pages."""
+"""Defines what pages consist of: answers, tables with headers and cells, links to other pages."""
 from __future__ import annotations
 
 from dataclasses import dataclass, field
@@ -6,26 +6,26 @@ from typing import Any, Callable, Iterable, Mapping, Sequence, Union
 
 from life_tools.reports.report_pages import apart
 
-# a cell on the right is a number or an amount
+# a cell on the right has a number or an amount
 RIGHT = "right"
 
 
 @dataclass(frozen=True)
 class Page:
-    """A page by its template; `file` marks one that is made for a file or for paper too."""
+    """A page: its template, its title, and the values for the template."""
 
     template: str
     title: str
     values: Mapping[str, Any]
-    # after so many seconds the page comes anew, since something of it is still being made
+    # the page reloads after so many seconds, because a part of it is still being made
     refresh: int = 0
-    # the view that it is of, where that isn't the one of its address
+    # the view of the page if it is not the one of its address
     of: Any = None
 
 
 @dataclass(frozen=True)
 class File:
-    """A download: its name, its kind, and its text in parts or its bytes."""
+    """A download: its name, its type, and its text in parts or its bytes."""
 
     name: str
     kind: str
@@ -34,7 +34,7 @@ class File:
 
 @dataclass(frozen=True)
 class Elsewhere:
-    """The page is another one."""
+    """The answer is a redirect to another page."""
 
     link: str
 
@@ -44,7 +44,7 @@ Answer = Union[Page, File, Elsewhere]
 
 @dataclass(frozen=True)
 class Head:
-    """A column's name; where a list is sorted by it, the link that does it and which way it is sorted now."""
+    """The header of a column; if the list can be sorted by it, the link for that, and the present direction."""
 
     text: str
     kind: str = ""
@@ -54,7 +54,7 @@ class Head:
 
 @dataclass(frozen=True)
 class Cell:
-    """What stands in a column: a text, perhaps with a link; or a picture."""
+    """The content of a cell: a text, perhaps with a link, or a picture."""
 
     text: str
     link: str = ""
@@ -63,28 +63,28 @@ class Cell:
 
 @dataclass(frozen=True)
 class Table:
-    """A table; each cell knows its head, so that rows read as cards where the page is narrow."""
+    """A table; each cell belongs to a header, so that rows can be shown as cards on a narrow page."""
 
     caption: str
     heads: Sequence[Head]
     rows: Sequence[Sequence[Cell]]
     totals: Sequence[Sequence[Cell]] = field(default_factory=list)
-    # of each row whether it is a sum of those above
+    # for each row, whether it is a sum of the rows above
     is_sum: Sequence[bool] = ()
-    # `list` is one of policies or postings, which takes two lines a row where the page is narrow
+    # `list` is a list of policies or postings, in which a row takes two lines on a narrow page
     kind: str = ""
 
 
 def cells(texts: Iterable[object]) -> list[Cell]:
-    """Texts as cells, with thousands apart in counts and amounts."""
+    """Returns texts as cells, with separators of thousands in counts and amounts."""
     return [Cell(apart(str(text))) for text in texts]
 
 
 def heads(names: Sequence[str], left: int = 1) -> list[Head]:
-    """Heads of which the first so many columns are words."""
+    """Returns headers; the first `left` columns have words, the others numbers."""
     return [Head(name, "" if place < left else RIGHT) for place, name in enumerate(names)]
 
 
 def sorting_head(says: str, kind: str, way: str, address: Callable[[str], str]) -> Head:
-    """The head of a column by which a list is sorted; `way` tells how it is sorted by it now, or nothing."""
+    """Returns the header of a column by which a list can be sorted; `way` is the present direction, or ""."""
     return Head(says, kind, address("down" if way == "ascending" else "up"), way)

@@ -1,4 +1,4 @@
-"""Pictures in a page, as SVG within it: a reserve over the years, and bars beside sums. Colours are the style sheet's."""
+"""Draws pictures in a page as SVG: a reserve over the years, and bars beside sums; the style sheet has the colours."""
 from __future__ import annotations
 
 from html import escape
@@ -9,12 +9,12 @@ from life_tools.reports.report_pages import apart, money
 
 WIDTH, HEIGHT = 720, 300
 LEFT, RIGHT, TOP, BOTTOM = 128, 24, 16, 46
-# the steps of an axis are one of these times a power of ten
+# the steps of an axis are one of these numbers times a power of ten
 ROUND = (1, 2, 5, 10)
 
 
 def step_of(most: int) -> int:
-    """A round step of which some four make the most."""
+    """Returns a round step, of which about four make up `most`."""
     step = 1
     while True:
         for each in ROUND:
@@ -28,7 +28,7 @@ def text(x: float, y: float, words: str, kind: str) -> str:
 
 
 class Curve:
-    """Points over years: a year, an amount in cents, and the words of the day."""
+    """A curve over years; each point has a year, an amount in cents, and the text of its day."""
 
     def __init__(self, points: Sequence[tuple[int, int, str]], chosen: int | None, says: str) -> None:
         self.points, self.chosen, self.says = points, chosen, says
@@ -73,7 +73,7 @@ class Curve:
 
 
 def bar(cents: int, most: int) -> str:
-    """A bar to the scale of the most, for a cell; what is below 0 has a colour of its own."""
+    """Returns a bar for a cell, scaled to `most`; an amount below 0 has its own colour."""
     permille = 1000 * abs(cents) // most if most > 0 else 0
     return ('<svg class="bar" viewBox="0 0 1000 60" preserveAspectRatio="none" aria-hidden="true">'
             '<rect class="ground" width="1000" height="60"/>'

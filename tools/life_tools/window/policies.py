@@ -1,4 +1,4 @@
-"""One policy: what it is, in a sentence; its postings and what they booked; what is due; its reserve over the years."""
+"""Describes one policy: what it is, in a sentence; its postings and bookings; what is due; its reserve over the years."""
 from __future__ import annotations
 
 import datetime
@@ -24,7 +24,7 @@ STATUSES = {"inforce": "in force", "lapsed": "lapsed", "claimed": "claimed", "ma
 
 
 class Step(NamedTuple):
-    """A posting: its position, what it is, and what it booked on which account, in cents."""
+    """A posting: its position, the command, and what it booked on which account, in cents."""
 
     position: int
     command: Command
@@ -32,14 +32,14 @@ class Step(NamedTuple):
 
 
 class Known(NamedTuple):
-    """A policy at a position, with its postings up to there."""
+    """A policy at a position, with its postings up to that position."""
 
     policy: Policy
     steps: list[Step]
 
 
 def policy_at(book: View, number: int) -> Known | None:
-    """The policy as the rules make it of its postings."""
+    """Returns the policy as the rules make it from its postings, or None if there is none."""
     records = book.records()
     places = records.places_of(number)
     steps, policy = [], None
@@ -58,7 +58,7 @@ def years_in_words(policy: Policy) -> str:
 
 
 def terms_of(policy: Policy) -> str:
-    """The terms as a sentence."""
+    """Returns the terms of a policy as a sentence."""
     paid_up = policy.status == "paidup"
     premiums = payments_of(policy)
     how = "a year for life" if policy.plan == "whole" else f"a year, at most {premiums} times"
@@ -68,7 +68,7 @@ def terms_of(policy: Policy) -> str:
 
 
 def standing_of(policy: Policy) -> str:
-    """How it stands as a sentence."""
+    """Returns the state of a policy as a sentence."""
     paid = f"{policy.paid} premium{'' if policy.paid == 1 else 's'} paid"
     due = due_of(policy) if policy.status == "inforce" else None
     then = (f"; the next is due on {due} and can be paid until {due + GRACE}" if due
@@ -106,7 +106,7 @@ def anniversaries_of(policy: Policy) -> list[datetime.date]:
 
 
 def curve_of(book: View, known: Known) -> Curve:
-    """What the program prints on each anniversary of a journal that has this policy's postings alone."""
+    """Returns what the program prints on each anniversary for a journal that has only this policy's postings."""
     title = f"policy {known.policy.number} over the years"
     found = book.kept(("curve", known.policy.number, book.at), title, lambda job: drawn(book, known, job))
     assert isinstance(found, Curve)
@@ -129,7 +129,7 @@ def drawn(book: View, known: Known, job: Job) -> Curve:
 
 
 def rows_on(book: View, desk: str, days: list[datetime.date]) -> Iterator[ValuedRow]:
-    """The rows of one policy that a script of valuations prints."""
+    """Yields the rows of one policy that a script of valuations prints."""
     script = os.path.join(desk, "script")
     with open(script, "w", encoding="ascii") as file:
         file.writelines(f"1,value,{day},now,1\n" for day in days)

@@ -1,4 +1,4 @@
-"""The page of a policy."""
+"""Makes the page of a policy."""
 from __future__ import annotations
 
 import datetime
@@ -24,7 +24,7 @@ MEASURE_WORDS = {"terminal": "terminal", "mean": "mean", "deficiency": "with the
 
 
 def policy(book: View, asked: Asked) -> Answer:
-    """What a policy is, what was posted, what is due, and where a day is chosen its reserve."""
+    """Returns what a policy is, what was posted, what is due, and its reserve if a day is chosen."""
     asked.only(WORDS)
     number = asked.number("number", 1, MOST_NUMBER, 0)
     if not number:
@@ -55,7 +55,7 @@ def postings_of(known: Known) -> Table:
 
 
 def anniversaries_near(known: Known, book: View, day: datetime.date, measure: str) -> list[tuple[str, str]]:
-    """Days on which the reserve is likely to be asked for: the ends of the last years that the postings reach."""
+    """Returns days for which the reserve is likely to be asked: the ends of the last years that the postings reach."""
     first, last = known.policy.issued.year, max(known.policy.last.year, known.policy.issued.year)
     years = [year for year in range(last, last - 3, -1) if year >= first]
     words: dict[str, object] = {"number": known.policy.number, "day": day, "measure": measure if measure != "terminal" else ""}
@@ -63,7 +63,7 @@ def anniversaries_near(known: Known, book: View, day: datetime.date, measure: st
 
 
 def reserve_of(book: View, known: Known, on: datetime.date, measure: str) -> dict[str, Any]:
-    """The printed row of the whole book's valuation, and the same worked out."""
+    """Returns the printed row of the whole book's valuation, and the same row worked out."""
     valuation = kept_valuation(book, on, measure)
     row = row_of(valuation, known.policy.number)
     if row is None:

@@ -1,4 +1,4 @@
-"""Lists of postings and premiums behind a mark of a chart: each adds up to the number that the mark shows."""
+"""Lists the postings and premiums behind a mark of a chart; each list adds up to the number that the mark shows."""
 from __future__ import annotations
 
 import datetime
@@ -24,7 +24,7 @@ MONTH = re.compile("([0-9]{4})-(0[1-9]|1[0-2])")
 
 
 def month_in(asked: Asked) -> tuple[int, int]:
-    """The first and the last day of the month that is asked for."""
+    """Returns the first and the last day of the month that is asked for."""
     text = asked.text("month")
     parts = MONTH.fullmatch(text)
     if not parts or not FIRST_DAY.year <= int(parts[1]) <= LAST_DAY.year:
@@ -37,7 +37,7 @@ def month_in(asked: Asked) -> tuple[int, int]:
 # --- premiums of a month ---
 
 def premiums(book: View, asked: Asked) -> Answer:
-    """The premiums that fell due in a month, or those that were received in it."""
+    """Returns the premiums that fell due in a month, or those that were received in it."""
     asked.only(("at", "month", "what", "page"))
     first, last = month_in(asked)
     if asked.one_of("what", ("due", "received"), "due") == "received":
@@ -67,7 +67,7 @@ def due_page(book: View, asked: Asked, first: int, last: int) -> Answer:
 
 
 def due_between(book: View, first: int, last: int) -> Installments:
-    """The premiums that fell due between two days, as the chart of months counts them."""
+    """Returns the premiums that fell due between two days, counted as in the chart of months."""
     history = book.history()
     newest = int(history.latest[-1]) if len(history) else last
     found = installments(book, history, max(min(last, month_ends(newest)[2]), first))
@@ -88,7 +88,7 @@ def due_rows(book: View, found: Installments, order: Array) -> list[list[Cell]]:
 
 
 def posted_cells(book: View, places: Array) -> list[tuple[Cell, Cell, Cell, Cell]]:
-    """Of the postings at some places the position, the day, the kind and the policy."""
+    """Returns for the postings at some places the position, the day, the kind and the policy."""
     return [(cells((place + 1,))[0], Cell(str(it.day or "")), Cell(it.kind), policy_cell(book, it.number))
             for place, it in zip(places.tolist(), book.records().commands(places))]
 
@@ -96,7 +96,7 @@ def posted_cells(book: View, places: Array) -> list[tuple[Cell, Cell, Cell, Cell
 # --- postings of a kind ---
 
 def postings(book: View, asked: Asked) -> Answer:
-    """The claims or the maturities of a year."""
+    """Returns the claims or the maturities of a year."""
     asked.only(("at", "year", "kind", "page"))
     kind, year = asked.one_of("kind", KINDS, "claim"), asked.number("year", FIRST_DAY.year, LAST_DAY.year, FIRST_DAY.year)
     history = book.history()
@@ -106,7 +106,7 @@ def postings(book: View, asked: Asked) -> Answer:
 
 
 def posting_page(book: View, asked: Asked, positions: Array, title: str, words: dict[str, object]) -> Answer:
-    """Postings with what each booked, fifty a page."""
+    """Returns a page of at most fifty postings, with what each of them booked."""
     name = "postings" if "kind" in words else "premiums"
     pages = max(-(-len(positions) // A_PAGE), 1)
     page = asked.number("page", 1, pages, 1)

@@ -1,4 +1,4 @@
-"""Runs of the program and of the other tools: one at a time, in a private folder, with a limit of time, ended with the window."""
+"""Runs the program and the other tools, one at a time in a private folder, with a time limit; runs end with the window."""
 from __future__ import annotations
 
 import os
@@ -11,7 +11,7 @@ from typing import Iterator, Sequence
 from life_tools.common.formats import Wrong, demand
 from life_tools.common.packages import ANEW
 
-# the seconds that a run may take: far more than the largest book needs
+# seconds that a run may take, far more than the largest book needs
 LIMIT = 300
 ONE_AT_A_TIME = threading.Lock()
 RUNNING: set[subprocess.Popen[bytes]] = set()
@@ -19,7 +19,7 @@ IS_CLOSED = threading.Event()
 
 
 def end_all() -> None:
-    """Ends what still runs; nothing is begun any more."""
+    """Ends all runs; no further run is started."""
     IS_CLOSED.set()
     for run in list(RUNNING):
         end(run)
@@ -33,7 +33,7 @@ def end(run: subprocess.Popen[bytes]) -> None:
 
 
 class Unchanged:
-    """A file that has to stay what it was, as the program that a window asks: it is looked at before each run."""
+    """A file that must not change, such as the program that a window runs; it is checked before each run."""
 
     def __init__(self, path: str) -> None:
         self.path = path
@@ -51,12 +51,12 @@ class Unchanged:
                "window, which looks at it anew")
 
 
-# what each run needs to find as it was
+# files that each run needs unchanged
 NEEDED: list[Unchanged] = []
 
 
 def run_to(path: str, words: Sequence[str], folder: str, scratch: str, given: str | None = None) -> tuple[int, str]:
-    """Runs words in a folder, with what they print going to a file: the status, and the last of what they remarked."""
+    """Runs a command in a folder with its output in a file, and returns the status and the end of its remarks."""
     environment = {name: text for name, text in os.environ.items() if name != ANEW}
     environment["TMPDIR"] = scratch
     demand(not IS_CLOSED.is_set(), "the window is being closed")
@@ -81,7 +81,7 @@ def run_to(path: str, words: Sequence[str], folder: str, scratch: str, given: st
 
 
 def printed_by(life: Sequence[str], words: Sequence[str], folder: str, scratch: str, path: str, given: str | None = None) -> str:
-    """A file with what the program prints on these words in a folder, which must end with status 0."""
+    """Writes what the program prints with these arguments to a file, and returns its path; the run must end with status 0."""
     status, remarks = run_to(path, [*life, *words], folder, scratch, given)
     if status:
         with open(path, encoding="ascii", errors="replace") as file:
@@ -97,5 +97,5 @@ def lines_of(path: str) -> Iterator[str]:
 
 
 def tool_words() -> list[str]:
-    """The words that begin a run of another of these tools: the same file, by the same Python."""
+    """Returns the arguments that begin a run of another of these tools: the same file, by the same Python."""
     return [sys.executable, "-B", os.path.abspath(sys.argv[0])]

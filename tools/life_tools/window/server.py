@@ -1,4 +1,4 @@
-"""The server of the window: on the loopback, with so many connections at a time, each for so many seconds and no longer."""
+"""Serves the window on the loopback, with a limit on the number of connections and on the seconds of each."""
 from __future__ import annotations
 
 import importlib
@@ -12,15 +12,15 @@ from life_tools.window.door import Door
 
 LOOPBACK = "127.0.0.1"
 MOST_CONNECTIONS = 64
-# a request has to be whole, and answered, within so many seconds
+# a request must be complete and answered within so many seconds
 WHOLE_REQUEST = 15
-# how often it is looked which connections are over their time
+# seconds between two checks for connections past their time
 EACH = 0.5
 FULL = b"HTTP/1.0 503 Service Unavailable\r\nConnection: close\r\nContent-Length: 0\r\n\r\n"
 
 
 class Deadlines:
-    """The connections that are open, each with the moment at which it is ended, and one thread that ends them."""
+    """The open connections, each with the time at which it is ended, and one thread that ends them."""
 
     def __init__(self, most: int = MOST_CONNECTIONS, seconds: float = WHOLE_REQUEST) -> None:
         self.most, self.seconds = most, seconds
@@ -29,7 +29,7 @@ class Deadlines:
         threading.Thread(target=self.watch, daemon=True).start()
 
     def begins(self, line: Any) -> bool:
-        """Whether there is a place for one more."""
+        """Returns whether one more connection is permitted, and registers it."""
         with self.turn:
             if len(self.open) >= self.most:
                 return False
@@ -51,7 +51,7 @@ class Deadlines:
 
 
 def end(line: Any) -> None:
-    """Ends a connection for both sides; whoever reads or writes it is told so at once."""
+    """Ends a connection for both sides; whoever reads from it or writes to it gets an error at once."""
     try:
         line.shutdown(socket.SHUT_RDWR)
     except OSError:
@@ -59,12 +59,12 @@ def end(line: Any) -> None:
 
 
 def quiet_handler() -> Any:
-    """A handler of requests that keeps no log, since an address may hold the token."""
+    """Returns a request handler that keeps no log, since an address may contain the token."""
     serving: Any = importlib.import_module("werkzeug.serving")
 
     class Handler(serving.WSGIRequestHandler):  # type: ignore[misc]
         timeout = WHOLE_REQUEST
-        # each request has a connection of its own, so that what a refused one left behind is never another one's
+        # each request has its own connection, so that bytes left by a refused request are never read as another one
         protocol_version = "HTTP/1.0"
         server_version, sys_version = "life", ""
 
@@ -81,7 +81,7 @@ def server_class() -> Any:
     serving: Any = importlib.import_module("werkzeug.serving")
 
     class Server(serving.ThreadedWSGIServer):  # type: ignore[misc]
-        # those beyond the most are told so at once, and hold nothing
+        # connections beyond the limit get an answer at once, and hold no resources
         request_queue_size = MOST_CONNECTIONS
         deadlines = Deadlines()
 
@@ -101,13 +101,13 @@ def server_class() -> Any:
             super().shutdown_request(request)
 
         def handle_error(self, request: Any, client_address: Any) -> None:
-            """A connection that ended while it was answered is nothing to be told."""
+            """Reports nothing if a connection ended while it was answered."""
 
     return Server
 
 
 def served(door: Door, port: int) -> Any:
-    """A server of a door at a port, or at a free one for 0."""
+    """Returns a server for the guard at a port; port 0 takes a free port."""
     try:
         return server_class()(LOOPBACK, port, door, quiet_handler())
     except (OSError, SystemExit) as error:

@@ -1,4 +1,4 @@
-"""The site: which page answers which path, how its answer goes out, and what is told where there is none."""
+"""Routes the site: which page answers which path, how its answer is sent, and what is shown if there is none."""
 from __future__ import annotations
 
 import datetime
@@ -41,24 +41,24 @@ PAGES: dict[str, Show] = {
     "letters.csv": audit_pages.letters, "letters.html": audit_pages.letters_page,
     "stands": stand_pages.stands, "newest": stand_pages.newest,
 }
-# the pages that lead to the others
+# the pages of the menu
 MENU = {"": "Book", "find": "Find", "day": "The day", "month": "Month and year", "audit": "Audit", "stands": "How it stands"}
 UNDER = {"policy": "find", "report": "month", "movement": "month", "statement": "month", "day/list": "day", "flags": "audit",
          "sample": "audit", "premiums": "", "postings": "", "held": "", "refusals": "", "group": "month", "moved": "month",
          "bases": "month", "statement/cell": "month"}
-# what a page shows again by itself while it waits
+# seconds after which a page reloads while it waits
 REFRESH = 1
 
 
 def file_of_package(name: str) -> bytes:
-    """A file beside this module, also where all are one packed file."""
+    """Returns a file beside this module, also if all modules are packed into one file."""
     found = pkgutil.get_data(PACKAGE, name)
     assert found is not None
     return found
 
 
 class Site:
-    """The books of a window, and Flask's application over them."""
+    """The books of a window, and the Flask application that shows them."""
 
     def __init__(self, books: list[BookCopy], door: Door, program: Program) -> None:
         self.flask: Any = importlib.import_module("flask")
@@ -92,7 +92,7 @@ class Site:
         return self.rendered("books.html", "Books", {"rows": [self.listed(book) for book in self.books]})
 
     def listed(self, book: BookCopy) -> dict[str, Any]:
-        """A book in the list of books: its counts and sums, once it is open."""
+        """Returns a book for the list of books, with its counts and sums once it is open."""
         found: dict[str, Any] = {"name": book.name, "link": address(self.root, book.number, "", {})}
         if not book.positions:
             return found
@@ -145,11 +145,11 @@ class Site:
 
     @staticmethod
     def words_of(asked: Asked) -> dict[str, object]:
-        """The words of a page beside its position."""
+        """Returns the arguments of a page without its position."""
         return {word: text for word, text in asked.words.items() if word not in ("at", "of", *POSITIONS)}
 
     def share(self, view: View, asked: Asked) -> Page:
-        """An address of a page for somebody else on this machine, with a key of its own."""
+        """Returns the address of a page for somebody else on this machine, with its own token."""
         of = asked.text("of")
         if of not in PAGES:
             raise BadRequest(f"of: {shown(of)} is no page")
@@ -173,7 +173,7 @@ class Site:
 
     @staticmethod
     def others(copy: BookCopy) -> list[Any]:
-        """Bases of other names, which aren't older ones of the book's own."""
+        """Returns copied bases with other names, which are not older versions of the book's own basis."""
         return [each for each in copy.bases if each.name != copy.book.basis]
 
     def rendered(self, template: str, title: str, values: dict[str, Any], status: int = 200) -> Any:
@@ -182,8 +182,10 @@ class Site:
         return self.flask.Response(text.encode("utf-8", "replace"), status=status, mimetype="text/html")
 
     def again(self, response: Any, seconds: int) -> Any:
-        """The page comes anew by itself, told with its address, since one that was come to by a place within it would else not
-        be fetched again."""
+        """Makes the page reload by itself.
+
+        The header names the address, since a page that was reached by an anchor would otherwise not be fetched again.
+        """
         request = self.flask.request
         words = urlencode(list(request.args.items(multi=True)))
         response.headers["Refresh"] = f"{seconds}; url={self.root}{quote(request.path)}?{words}"
@@ -194,7 +196,7 @@ class Site:
         return self.again(self.rendered("working.html", "One moment", values, 202), REFRESH)
 
     def told(self, status: int, what: str, why: str, book: BookCopy | None = None, name: str = "") -> Any:
-        """A page with a reason, with the menu and with what was typed, so that it can be put right."""
+        """Returns a page with a reason, with the menu and with what was typed, so that it can be corrected."""
         values: dict[str, Any] = {"why": book.without_paths(why) if book else why, "copy": book, "status": status}
         if book and book.positions and name in PAGES:
             menu = [(says, address(self.root, book.number, page, {}), page == UNDER.get(name, name))
@@ -205,10 +207,10 @@ class Site:
         return self.rendered("told.html", what, values, status)
 
     def failed(self, error: Exception) -> Any:
-        """What no page has caught: an address that is none, or a fault of the window's own."""
+        """Handles what no page has caught: an unknown address, or a fault of the window itself."""
         code = getattr(error, "code", None)
         if isinstance(code, int) and 400 <= code < 500:
             return self.told(code, "There is no such page", "Go on from the book's first page.")
-        # whoever runs the window is told where it is; the page has no path of the machine
+        # the operator sees the place in the traceback; the page has no path of the machine
         traceback.print_exception(error)
         return self.told(500, "The window has a fault", f"{type(error).__name__}: the page wasn't made; nothing else is changed.")

@@ -1,4 +1,4 @@
-"""How it stands, and the newest position."""
+"""Makes the page of how the book stands, and takes the newest position."""
 from __future__ import annotations
 
 import getpass
@@ -15,16 +15,16 @@ from life_tools.window.standing import backups_near, logged_runs
 from life_tools.window.tool_runs import ToolRun, tool_run
 
 
-# a list of books takes no name of every kind, and needs none of this book's
+# a list of books does not accept every name, and the book's own name is not needed here
 LISTED = "book"
 
 
 def headroom(book: View) -> ToolRun:
-    """A run of `books headroom` over a list of the private copy alone."""
+    """Runs `books headroom` over a list that has only the private copy."""
     desk, new = os.path.basename(book.desk), book.copy.new_file()
     with open(new, "w", encoding="utf-8") as file:
         file.write(f"{LISTED},{desk},{book.basis.name}\n")
-    # put in place whole: the page is asked for again while the tool reads the list
+    # renamed into place when complete, since the page may be asked for again while the tool reads the list
     path = os.path.join(book.copy.folder, f"list-{desk}.csv")
     os.replace(new, path)
     return tool_run(book, ["books", "headroom", path], "how many commands are left", True, (book.copy.newest,))
@@ -37,7 +37,7 @@ def headroom_table(run: ToolRun) -> Table:
 
 
 def user_name() -> str:
-    """Who runs the window; the number of a user who has no name on this machine."""
+    """Returns the name of the user who runs the window, or the number of a user without a name on this machine."""
     try:
         return getpass.getuser()
     except (KeyError, OSError):
@@ -66,7 +66,7 @@ def stands(book: View, asked: Asked) -> Answer:
 
 
 def newest(book: View, asked: Asked) -> Answer:
-    """Takes what was posted since and the basis as it is now, and goes on from there."""
+    """Takes what was posted since and the present basis, and redirects to the newest position."""
     asked.only(("at",))
     copy = book.copy
     if copy.behind() or copy.changes():

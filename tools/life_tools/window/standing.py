@@ -1,4 +1,4 @@
-"""How a book stands: the last runs that were logged beside it, the backups that are found, and what belongs together."""
+"""Finds how a book stands: the last logged runs, the backups near it, and what belongs together."""
 from __future__ import annotations
 
 import datetime
@@ -21,7 +21,7 @@ MOST_LOOKED_AT = 2000
 
 @dataclass(frozen=True)
 class LoggedRun:
-    """A run that `life-tools day` noted: its number, the status, the postings before it, and whether it has ended."""
+    """A run that `life-tools day` noted: its number and begin, the status, the postings before it, and whether it has ended."""
 
     name: str
     status: str
@@ -30,7 +30,7 @@ class LoggedRun:
 
 
 def is_plain(path: str) -> bool:
-    """Whether a path is a plain file; anything else, as a pipe that nobody writes, would be waited for without end."""
+    """Returns whether a path is a plain file; reading anything else, such as a pipe that nobody writes, might never end."""
     try:
         return stat.S_ISREG(os.lstat(path).st_mode)
     except OSError:
@@ -46,7 +46,7 @@ def folders_in(path: str) -> list[str]:
 
 
 def logged_runs(folder: str) -> tuple[list[LoggedRun], int]:
-    """The last runs; and of how many files something is left to do, by a person or by the next `day`."""
+    """Returns the last runs, and the number of files that still need work by a person or by the next `day`."""
     log = Log(folder)
     numbers = [number for number in log.run_numbers() if is_plain(os.path.join(log.runs, f"{number:06}", RUN))]
     runs = [log.run(number) for number in reversed(numbers[-MOST_RUNS:])]
@@ -63,7 +63,7 @@ def logged_run(run: Run) -> LoggedRun:
 # --- what waits for a person ---
 
 def entries_of(log: Log, names: list[str]) -> list[Entry]:
-    """Entries of the log by their names, as far as their records can be read."""
+    """Returns the entries of the log with these names, if their records can be read."""
     found = []
     for name in names:
         try:
@@ -74,7 +74,7 @@ def entries_of(log: Log, names: list[str]) -> list[Entry]:
 
 
 def waiting_entries(folder: str) -> list[Entry]:
-    """The entries of which something is left to do, the last ones first: only these have rows that are held."""
+    """Returns the entries that still need work, the last ones first; only these have held rows."""
     log = Log(folder)
     undone = [name for name in log.names() if not os.path.exists(os.path.join(log.path, name, DONE))]
     return entries_of(log, undone[:-MOST_LOOKED_AT - 1:-1])
@@ -86,12 +86,12 @@ def last_entries(folder: str) -> list[Entry]:
 
 
 def held_rows(folder: str) -> list[tuple[str, str]]:
-    """The rows that wait for a person: the entry and the row."""
+    """Returns the rows that wait for a person, each with its entry."""
     return [(shown(entry.name), shown(str(each["text"]))) for entry in waiting_entries(folder) for each in entry.held]
 
 
 def refused_rows(folder: str) -> list[tuple[str, str]]:
-    """The rows of the last entries that were refused: the entry, and the row with what was answered."""
+    """Returns the refused rows of the last entries: the entry, and the row with its answer."""
     found = []
     for entry in last_entries(folder):
         texts = texts_of(entry)
@@ -101,7 +101,7 @@ def refused_rows(folder: str) -> list[tuple[str, str]]:
 
 
 def texts_of(entry: Entry) -> dict[int, str]:
-    """The rows of the file that was handed in, by their numbers, where it is still there as it was read."""
+    """Returns the rows of the file that was handed in, by their numbers, or none if it is not there unchanged."""
     try:
         return {line.row.number: line.row.text for line in entry.lines} if is_plain(entry.path(HANDED_IN)) else {}
     except Wrong:
@@ -109,14 +109,14 @@ def texts_of(entry: Entry) -> dict[int, str]:
 
 
 def waiting_in(folder: str) -> tuple[int, int]:
-    """How many rows are held back, and how many lines of the last entries were refused."""
+    """Returns how many rows are held, and how many rows of the last entries were refused."""
     return (sum(len(entry.held) for entry in waiting_entries(folder)),
             sum(len(entry.record["refused"]) for entry in last_entries(folder)))
 
 
 @dataclass(frozen=True)
 class Backup:
-    """A journal that lies near the book: where, of which time, how many postings, and whether it is a front of this one."""
+    """A journal near the book: its path, its time, its count, and whether it is a prefix of this book's journal."""
 
     path: str
     made: str
@@ -125,7 +125,7 @@ class Backup:
 
 
 def backups_near(folder: str, journal: str, newest: int) -> list[Backup]:
-    """Other journals in the book's folder, in the one above and in folders named backup there."""
+    """Returns other journals in the book's folder, in the folder above, and in folders of these with `backup` in their names."""
     places = [folder, os.path.dirname(folder)]
     places += [os.path.join(place, name) for place in list(places) for name in folders_in(place) if "backup" in name.lower()]
     found = []

@@ -1,4 +1,4 @@
-"""What is behind a cell of a statement: the policies, the postings or the sums of which it is made."""
+"""Lists what is behind a cell of a statement: the policies, postings or sums of which it consists."""
 from __future__ import annotations
 
 import csv
@@ -26,7 +26,7 @@ GROUP_OF = {title: group for group, title in exhibits.TITLES.items()}
 
 @dataclass(frozen=True)
 class Behind:
-    """Rows behind a cell: what they are, the heads, the rows of a page, how many there are of all, and the sum of the cents."""
+    """Rows behind a cell: what they are, the headers, the rows of a page, the number of all rows, and the sum of the cents."""
 
     says: str
     heads: Sequence[Head]
@@ -40,7 +40,7 @@ def told_words(words: dict[str, str]) -> dict[str, object]:
 
 
 def cell(book: View, asked: Asked) -> Answer:
-    """The list behind a cell; it adds up to the cell's amount, but for the rounding that the sheet tells."""
+    """Returns the list behind a cell; it adds up to the cell's amount, except for the rounding that the sheet states."""
     words = asked_words(book, asked, "sheet", "line", "group", "page")
     sheet, line, group = asked.one_of("sheet", TITLES, "exhibit"), asked.text("line"), asked.text("group")
     found = LISTS[sheet](book, words, line, group)
@@ -93,7 +93,7 @@ def postings_behind(book: View, places: Array, cents: Array) -> Behind:
 
 
 def between(book: View, words: dict[str, str], *kinds: int) -> Array:
-    """The places of the postings of some kinds between both positions."""
+    """Returns the places of the postings of some kinds between the two positions."""
     kind = book.history().kind
     first = int(words["p1"])
     found: Array = np.flatnonzero(np.isin(kind[first:], kinds)) + first
@@ -101,12 +101,12 @@ def between(book: View, words: dict[str, str], *kinds: int) -> Array:
 
 
 def insured_by(history: History) -> Array:
-    """What each posting changed of the amount insured."""
+    """Returns by how much each posting changed the amount insured."""
     return np.diff(history.insured, prepend=0)
 
 
 def group_at(book: View, places: Array) -> Array:
-    """The group of the exhibit in which the policy of each posting stood before it."""
+    """Returns the exhibit's group to which the policy of each posting belonged before it."""
     history, of = book.history(), book.policies()
     made = np.full(len(of), len(history), np.int64)
     upgraded = np.flatnonzero(history.kind == PAIDUP)
@@ -188,7 +188,7 @@ def parts_behind(book: View, words: dict[str, str], sheet: str, is_of: Callable[
 
 
 def behind_increase(book: View, words: dict[str, str], line: str, bound: str) -> Behind | None:
-    """A line of the increase; its lines between are worked out once for both columns."""
+    """Returns what is behind a line of the increase; a line between the two ends was computed once for both columns."""
     ends = "lower" if "lower" in bound else "upper"
     column = {"reserve at the beginning": f"opening {ends}", "reserve at the end": f"closing {ends}"}.get(line, line)
     if line in ("rounding", "change of basis"):

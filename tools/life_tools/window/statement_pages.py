@@ -1,4 +1,4 @@
-"""The statement between two days: its sheets as `statement` writes them, beside the printed total that they end with."""
+"""Makes the page of a statement between two days: its sheets as `statement` writes them, beside the printed closing total."""
 from __future__ import annotations
 
 import csv
@@ -22,15 +22,15 @@ WORDS = ("at", "on1", "p1", "on2", "p2", "measure")
 MEASURES = ("mean", "terminal")
 TITLES = {"exhibit": "Exhibit of life insurance", "reserves": "Reserves by valuation basis", "premiums": "Premiums",
           "increase": "Increase in reserves", "claims": "Claims and maturities"}
-# the lines that are sums of what stands above
+# lines that are sums of the lines above
 TOTALS = ("total", "in force at the end", "reserve at the end", "outstanding at the end", "premium income")
 CLOSING = "reserve at the end"
-# lines that no policies stand behind: what is left of rounding, and sums of other lines
+# lines that have no policies behind them: what remains from rounding, and sums of other lines
 NOT_LISTED = ("rounding", "change of basis", "premium income")
 
 
 def asked_words(book: View, asked: Asked, *more: str) -> dict[str, str]:
-    """The days, the positions and the measure; the closing position is that of the view."""
+    """Returns the days, the positions and the measure; the closing position is that of the view."""
     asked.only((*WORDS, *more))
     on1, on2 = asked.day_or_none("on1"), asked.day_or_none("on2")
     if on1 is None or on2 is None:
@@ -43,14 +43,14 @@ def asked_words(book: View, asked: Asked, *more: str) -> dict[str, str]:
 
 
 def why_of(words: dict[str, str]) -> str:
-    """Why the statement is by its measure."""
+    """Returns why the statement is by its measure."""
     if words["measure"] == "mean":
         return "mean reserves" + (", as for a statement of a calendar year-end" if measure_on(words["on2"]) == "mean" else "")
     return "terminal reserves, asked for by name" if measure_on(words["on2"]) == "mean" else "terminal reserves"
 
 
 def written(book: View, words: dict[str, str], form: str, to: str) -> ToolRun:
-    """A run of `statement`, which ends with 1 where it doesn't add up, and then writes nothing."""
+    """Runs `statement`; it ends with 1 and writes nothing if it does not add up."""
     told = ["statement", *(words[name] for name in ("on1", "p1", "on2", "p2")), f"--{words['measure']}"]
     told += ["--basis", book.basis.name, "--title", book.name]
     title = f"the statement from {words['on1']} to {words['on2']}"
@@ -62,13 +62,13 @@ def sheet_in(run: ToolRun, name: str) -> list[list[str]]:
         return list(csv.reader(file))
 
 
-# of a wide sheet the counts and the amounts are two tables, so that neither is wider than its page
+# a wide sheet is shown as two tables, counts and amounts, so that neither is wider than its page
 PARTS = (("number of policies", ": number", (": amount",)), ("amounts", ": amount", (": number", "postings")))
 MOST_COLUMNS = 10
 
 
 def sheet_tables(book: View, words: dict[str, str], name: str, rows: list[list[str]]) -> list[Table]:
-    """A sheet as tables: amounts on the right, what is a sum of the lines above marked by its style, and each cell a link."""
+    """Returns a sheet as tables: amounts on the right, sums marked by their style, and each cell a link."""
     names, lines = rows[0], [row for row in rows[1:] if row[0] != UNPROVED]
     if len(names) <= MOST_COLUMNS:
         return [sheet_table(book, words, name, TITLES[name], names, lines)]
@@ -94,18 +94,18 @@ def sheet_table(book: View, words: dict[str, str], name: str, caption: str, name
 
 
 def told_of(rows: list[list[str]]) -> tuple[list[list[str]], dict[str, list[str]]]:
-    """The facts, and what is to be said of each sheet."""
+    """Returns the facts, and the notes on each sheet."""
     notes = {name: [says for fact, says in rows if fact == NOTE_ON + name] for name in TITLES}
     return [row for row in rows if not row[0].startswith(NOTE_ON)], notes
 
 
 def told_by(words: dict[str, str], measure: str) -> dict[str, object]:
-    """The words of the same statement by another measure."""
+    """Returns the arguments of the same statement by another measure."""
     return {**words, "measure": measure}
 
 
 def cell_link(book: View, words: dict[str, str], sheet: str, row: Sequence[str], column: str) -> str:
-    """Where the policies behind a cell are listed, or nothing for a cell that has none of its own."""
+    """Returns the link to the list of policies behind a cell, or "" for a cell that has none."""
     if sheet == "reserves":
         return book.link("report", on=words["on2"], measure=words["measure"])
     line = row[0]
@@ -117,7 +117,7 @@ def cell_link(book: View, words: dict[str, str], sheet: str, row: Sequence[str],
 
 
 def closing_row(rows: list[list[str]]) -> list[str]:
-    """The bounds of the reserve with which the increase ends."""
+    """Returns the bounds of the reserve with which the increase ends."""
     return next(row[-2:] for row in rows if row[0] == CLOSING)
 
 

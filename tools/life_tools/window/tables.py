@@ -1,7 +1,7 @@
-"""The policies of a book as a table of SQLite, as `export sqlite` has it: made once, and brought up to date by later records.
+"""Keeps the policies of a book as an SQLite table like that of `export sqlite`: made once, and updated by later records.
 
-A policy that changes keeps its row for the positions before: each row tells since which position it is so, and until which
-it was, so that a page of an earlier position stays what it was.
+A policy that changes keeps its row for the earlier positions: each row says from which position to which it holds, so that a page
+of an earlier position stays the same.
 """
 from __future__ import annotations
 
@@ -20,9 +20,9 @@ from life_tools.valuations.rows import TableRow
 
 Tell = Callable[[str, int, "int | None"], None]
 WHOLE = ("policy", "age", "years", "premiums_paid", "amount_cents", "premium_cents", "outstanding_cents")
-# the position behind all
+# a position after all others
 NEVER = MOST_COMMANDS + 1
-# what a list is sorted by where it is long, each with an index
+# the columns by which a long list may be sorted; each has an index
 INDEXED = ("policy", "issued", "plan", "status", "age", "amount_cents", "premium_cents", "paid_to", "next_due", "last_posted",
            "premiums_paid", "outstanding_cents")
 EACH = 1 << 14
@@ -33,14 +33,14 @@ def definition(name: str) -> str:
 
 
 def opened(path: str) -> sqlite3.Connection:
-    """A database for reading alone."""
+    """Opens a database for reading only."""
     database = sqlite3.connect(f"file:{path}?mode=ro", uri=True, timeout=30)
     database.row_factory = sqlite3.Row
     return database
 
 
 def written(path: str, log: str = "wal") -> sqlite3.Connection:
-    """A database for writing; it is thrown away with the window, so nothing waits for a disk."""
+    """Opens a database for writing; it is deleted with the window, so nothing waits for a disk."""
     database = sqlite3.connect(path, isolation_level=None, timeout=30)
     for pragma in (f"journal_mode = {log}", "synchronous = off", "cache_size = -16000"):
         database.execute(f"pragma {pragma}")
@@ -61,7 +61,7 @@ def told(tell: Tell, doing: str, rows: Iterable[TableRow], whole: int) -> Iterat
 
 
 def make(path: str, journal: str, tell: Tell) -> Columns:
-    """Makes the table of a journal's file; gives its book."""
+    """Makes the table of a journal's file, and returns its book."""
     tell("reading the journal", 0, None)
     book = columns_at(journal)
     with closing(written(path, "off")) as database:
@@ -70,13 +70,13 @@ def make(path: str, journal: str, tell: Tell) -> Columns:
         tell("an order of policies", 0, None)
         database.execute("create index policy_number on policy (policy, since)")
         database.execute("commit")
-        # from now on somebody reads while more is written
+        # from now on it is read while more is written
         database.execute("pragma journal_mode = wal")
         return book
 
 
 def make_list(path: str, book: Columns, tell: Tell) -> None:
-    """The table of the policies alone, with its orders."""
+    """Makes the table of the policies alone, with its indexes."""
     with closing(written(path, "off")) as database:
         database.execute("begin")
         make_policies(database, book, tell)
@@ -91,21 +91,21 @@ def make_policies(database: sqlite3.Connection, book: Columns, tell: Tell) -> No
 
 
 def make_orders(path: str) -> None:
-    """Orders by which a long list is sorted at once."""
+    """Makes the indexes by which a long list is sorted quickly."""
     with closing(written(path)) as database:
         make_orders_in(database)
 
 
 def make_orders_in(database: sqlite3.Connection) -> None:
     for name in INDEXED:
-        # with all by which rows are passed over, so that these needn't be read
+        # the index has all columns that decide whether a row is skipped, so that skipped rows are not read
         database.execute(f"create index if not exists policy_by_{name} on policy ({name}, policy, since, until)")
 
 
 # --- further records ---
 
 def bring_up_to_date(path: str, journal: str, first: int, tell: Tell) -> Columns:
-    """Takes the records behind a position; gives the book as it is now."""
+    """Adds the records after a position, and returns the book in its present state."""
     tell("reading the journal", 0, None)
     book = columns_at(journal)
     changed = np.unique(book.place[first:])
@@ -124,7 +124,7 @@ def bring_up_to_date(path: str, journal: str, first: int, tell: Tell) -> Columns
 # --- one policy ---
 
 def steps_of(postings: Iterable[tuple[int, Command]]) -> Iterator[tuple[int, Command, Policy]]:
-    """Each posting with the policy that it left, by the rules."""
+    """Yields each posting with the policy after it, by the rules."""
     policy: Policy | None = None
     for position, command in postings:
         after = decide(policy, command)

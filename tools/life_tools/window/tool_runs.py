@@ -1,4 +1,4 @@
-"""Other tools of the package, asked in the private folder: what they print and write is shown as it is."""
+"""Runs other tools of the package in the private folder; what they print and write is shown unchanged."""
 from __future__ import annotations
 
 import os
@@ -13,7 +13,7 @@ from life_tools.window.runs import run_to, tool_words
 
 @dataclass
 class ToolRun:
-    """What a tool left: a private folder with what it wrote, its status, what it printed and what it remarked."""
+    """What a tool left: a private folder with what it wrote, its status, what it printed, and its remarks."""
 
     path: str
     status: int
@@ -25,14 +25,14 @@ class ToolRun:
             return file.read()
 
     def file(self, name: str) -> str:
-        """A file that the tool wrote; the name is one of the window's own."""
+        """Returns the path of a file that the tool wrote; the name is one of the window's own."""
         return os.path.join(self.path, name)
 
 
 def tool_run(book: View, words: Sequence[str], title: str, is_wrong_shown: bool = True, of: tuple[int, ...] = ()) -> ToolRun:
-    """A run of a tool; `OUT/` in its words is a private folder of its own. Raises Working while it runs.
+    """Runs a tool and returns what it left; `OUT/` in its arguments is a private folder. Raises Working while it runs.
 
-    What it is `of` beside its words is asked anew where that changes.
+    `of` has values other than the arguments on which the result depends; if they change, the tool runs again.
     """
     found = book.kept(("tool", *words, *of), title, lambda job: ran(book, words, job, is_wrong_shown))
     assert isinstance(found, ToolRun)

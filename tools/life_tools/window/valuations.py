@@ -1,7 +1,7 @@
-"""Valuations that the program printed, kept with the sums of their groups; their rows lie in the private folder.
+"""Keeps valuations that the program printed, with the sums of their groups; their rows are files in the private folder.
 
-They are read, joined with the printed state and added up as `report` does it: what doesn't add up to the printed total isn't
-kept.
+They are read, joined with the printed state and added up as `report` does it; a valuation that does not add up to the printed
+total is not kept.
 """
 from __future__ import annotations
 
@@ -45,16 +45,16 @@ class Valuation:
         return self.whole.policies
 
     def codes(self, key: str) -> Array:
-        """Of each row the place of its group among the groups of a key."""
+        """Returns for each row the place of its group among the groups of a key."""
         return kept(self.path, [code_name(key)])[0]
 
     def rows(self) -> Rows:
-        """The rows, of which only what is asked for is read."""
+        """Returns the rows; only the parts that are used are read."""
         return Rows(*kept(self.path, COLUMNS))
 
 
 def kept_valuation(book: View, on: datetime.date, measure: str) -> Valuation:
-    """The valuation of a day at a position; raises Working while the program is asked."""
+    """Returns the valuation of a day at a position, and raises Working while the program computes it."""
     title = f"the {measure} reserves on {on} at position {book.at:,}"
     found = book.kept(("value", book.basis.name, on, book.at, measure), title, lambda job: valued(book, on, measure, job))
     assert isinstance(found, Valuation)
@@ -66,7 +66,7 @@ def code_name(key: str) -> str:
 
 
 def codes_in(rows: Joined, key: str, groups: Groups) -> Array:
-    """Of each row the place of its group, in the order in which the groups stand."""
+    """Returns for each row the place of its group, in the order of the groups."""
     codes, names = KEYS[key](rows)
     found, inverse = np.unique(codes, return_inverse=True)
     place_of = {name: place for place, (name,) in enumerate(groups)}
@@ -108,14 +108,14 @@ def valued(book: View, on: datetime.date, measure: str, job: Job) -> Valuation:
 
 
 def row_of(it: Valuation, number: int) -> ValuedRow | None:
-    """The row of a policy, as it was printed."""
+    """Returns the row of a policy as it was printed, or None."""
     rows = it.rows()
     places = np.flatnonzero(rows.number == number)
     return rows.row(int(places[0])) if len(places) else None
 
 
 def words_of(it: Valuation, most: int) -> list[tuple[str, int, list[int]]]:
-    """Each word in place of bounds: how many policies have it, and the first numbers."""
+    """Returns for each word in place of bounds how many policies have it, and the first of their numbers."""
     if not it.words:
         return []
     rows, found = it.rows(), []

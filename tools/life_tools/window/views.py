@@ -1,4 +1,4 @@
-"""What a page is of: a book at a position, by a basis; its address is tied to the SHA-256 of both."""
+"""Defines what a page shows: a book at a position by a basis; the page's address is tied to the SHA-256 of both."""
 from __future__ import annotations
 
 import datetime
@@ -22,21 +22,21 @@ from life_tools.window.book_copy import BookCopy, TakenBasis
 from life_tools.window.history import History
 from life_tools.window.jobs import Job
 
-# a position, perhaps with what ties it to a journal's prefix and a basis
+# a position, with or without the tie to a journal's prefix and a basis
 AT = re.compile("([0-9]{1,7})(?:-([0-9a-f]{12}))?")
 TIE = 12
-# so many other bases of a folder are offered
+# at most so many other bases of a folder are offered
 MOST_BASES = 30
-# the words of an address that name the position that its page shows, the first of them that is there
+# the arguments that may name the position a page shows; the first one that is there counts
 POSITIONS = ("p2", "p")
 
 
 class Gone(Wrong):
-    """A page was of a journal or a basis that this window doesn't have."""
+    """A page was of a journal or a basis that this window does not have any more."""
 
 
 def address(root: str, number: int, page: str, words: Mapping[str, object]) -> str:
-    """The address of a page of a book; words without a value are left out."""
+    """Returns the address of a page of a book; arguments without a value are left out."""
     given = {name: str(value) for name, value in words.items() if value not in (None, "")}
     return f"{root}/{number}/{page}" + (f"?{urlencode(given)}" if given else "")
 
@@ -60,12 +60,12 @@ class View:
 
     @property
     def desk(self) -> str:
-        """The private folder with the copied journal, the basis and its tables."""
+        """Returns the private folder with the copied journal, the basis and its tables."""
         return self.basis.folder
 
     @property
     def prefix_sum(self) -> str:
-        """The SHA-256 of the journal up to this position."""
+        """Returns the SHA-256 of the journal up to this position."""
         return self.copy.sum_at(self.at)
 
     @cached_property
@@ -74,13 +74,13 @@ class View:
 
     @cached_property
     def day(self) -> str | None:
-        """The day of the last posting up to this position."""
+        """Returns the day of the last posting up to this position, or None."""
         days = self.history().days()
         return str(day_at(int(days[-1]))) if len(days) else None
 
     @property
     def today(self) -> datetime.date:
-        """Today, or of an earlier position the day of its last posting."""
+        """Returns the present day, or for an earlier position the day of its last posting."""
         now = datetime.date.today()
         return now if self.at == self.copy.newest or not self.day else datetime.date.fromisoformat(self.day)
 
@@ -97,14 +97,14 @@ class View:
     # --- addresses ---
 
     def link(self, page: str, /, **words: object) -> str:
-        """The address of a page of this position by this basis."""
+        """Returns the address of a page of this position by this basis."""
         return address(self.copy.root, self.number, page, {"at": f"{self.at}-{self.tie}", **words})
 
     def newest_link(self, page: str, /, **words: object) -> str:
         return address(self.copy.root, self.number, page, words)
 
     def other_bases(self) -> list[str]:
-        """The files of the book's folder that may be another basis: small ones by their names."""
+        """Returns the files of the book's folder that may be another basis: small files with a suitable name."""
         try:
             with os.scandir(self.listed.folder) as found:
                 names = [each.name for each in found if each.name.endswith(".csv") and NAME.fullmatch(each.name)
@@ -116,23 +116,23 @@ class View:
     # --- what is known of it ---
 
     def kept(self, key: tuple[object, ...], title: str, work: Callable[[Job], object]) -> object:
-        """The result of some work by this basis."""
+        """Returns the result of some work by this basis."""
         return self.copy.kept((self.basis.sum, *key), title, work)
 
     def policies(self) -> Policies:
         return self.copy.policies(self.at)
 
     def history(self) -> History:
-        """What the book was at each position up to this one."""
+        """Returns what the book was at each position up to this one."""
         return self.copy.history(self.at)
 
     def records(self) -> Records:
-        """The postings up to this position."""
+        """Returns the postings up to this position."""
         return self.copy.records(self.at)
 
     @contextmanager
     def lists(self) -> Iterator[sqlite3.Connection]:
-        """The policies of this position."""
+        """Opens the policies of this position as a table."""
         with self.copy.lists(self.at) as database:
             yield database
 
@@ -147,7 +147,7 @@ def tie_of(prefix: str, basis: str) -> str:
 
 
 def view_of(copy: BookCopy, asked: Asked) -> View:
-    """What an address asks to see; raises Gone where it was of a journal or a basis that isn't there any more."""
+    """Returns what an address asks to see, and raises Gone if it was of a journal or a basis that is no longer there."""
     text = asked.text("at")
     parts = AT.fullmatch(text) if text else None
     at = number_of(parts[1], 0, MOST_COMMANDS) if parts else copy.newest
@@ -162,7 +162,7 @@ def view_of(copy: BookCopy, asked: Asked) -> View:
 
 
 def tied(copy: BookCopy, at: int, tie: str) -> View:
-    """The view of an address, by the basis with which that was made."""
+    """Returns the view of an address, by the basis with which the address was made."""
     for basis in reversed(copy.bases):
         view = View(copy, at, basis)
         if view.tie == tie:
@@ -172,11 +172,11 @@ def tied(copy: BookCopy, at: int, tie: str) -> View:
 
 
 def paged_words(words: Mapping[str, object], to: int) -> dict[str, object]:
-    """The words of a list's address, with another page."""
+    """Returns the arguments of a list's address, for another page."""
     return {**words, "page": to}
 
 
 def turns(link: Callable[[int], str], now: int, last: int) -> list[tuple[str, str]]:
-    """The links to other pages of a list, with what they say."""
+    """Returns the links to other pages of a list, with their texts."""
     places: Sequence[tuple[str, int]] = (("first", 1), ("before", now - 1), ("next", now + 1), ("last", last))
     return [(says, link(to)) for says, to in places if 1 <= to <= last and to != now]
