@@ -29,7 +29,7 @@ def arguments(parser: argparse.ArgumentParser) -> None:
 
 
 def basis_in(words: list[str]) -> str:
-    """The name of the basis file that the words ask for."""
+    """Returns the name of the basis file that the arguments ask for."""
     for word, following in zip(words, [*words[1:], ""]):
         if word == "--basis":
             return following

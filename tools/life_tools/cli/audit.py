@@ -105,7 +105,10 @@ def sample_arguments(parser: argparse.ArgumentParser) -> None:
 
 
 def run_sample(options: argparse.Namespace) -> int:
-    """The status is 1 where rows have a word: they count for nothing by a reserve, though the policies are insured."""
+    """Draws and prints a sample.
+
+    The status is 1 if rows have a word: by their reserve they count for nothing, although the policies are insured.
+    """
     asked, seed, on = asked_in(options.count), seed_in(options.seed), day_in(options.on)
     bases, at = bases_in(options.basis, options.classes, options.bases), position_in(options.at)
     drawn = sample_of(options.folder, on, asked, seed, options.by, bases, at, options.measure, options.life)
@@ -119,7 +122,7 @@ def run_sample(options: argparse.Namespace) -> int:
 # --- papers and letters on a sample ---
 
 def paper_arguments(parser: argparse._ActionsContainer) -> None:
-    """The files that papers are."""
+    """Adds the arguments for the files that papers are written to."""
     parser.add_argument("--html", metavar="FILE", help="one page, which needs no network")
     parser.add_argument("--pdf", metavar="FILE", help="the page as PDF, by Chromium or LibreOffice, where one is there")
 
@@ -135,7 +138,7 @@ def papers_arguments(parser: argparse.ArgumentParser) -> None:
 
 
 def write_papers(papers: Papers, html: str | None, pdf: str | None) -> int:
-    """A row that isn't right is written, and reported."""
+    """Writes the papers, and reports each row that is not right, with status 1."""
     text = page(papers)
     written_whole(pdf or html or "", lambda path: write_pdf(path, text) if pdf else write_text(path, text))
     for number in papers.wrong:
@@ -144,14 +147,14 @@ def write_papers(papers: Papers, html: str | None, pdf: str | None) -> int:
 
 
 def bases_of(sample: Sample, options: argparse.Namespace) -> Bases:
-    """Those of a sample, which names its one basis; of classes it names all."""
+    """Returns the bases of a sample: the one that it names, or with classes those given by --classes and --bases."""
     is_told = options.classes or len(sample.bases) == 1
     demand(is_told, f"{options.sample} is by classes: --classes and --bases are wanted")
     return bases_in(None if options.classes else sample.bases[0], options.classes, options.bases)
 
 
 def run_papers(options: argparse.Namespace) -> int:
-    """Writes nothing where the seed draws other rows of this book."""
+    """Writes the papers of a sample, or nothing if the seed draws other rows from this book."""
     sample = sample_at(options.sample)
     bases = bases_of(sample, options)
     if options.pdf:

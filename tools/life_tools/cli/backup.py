@@ -35,7 +35,7 @@ from life_tools.common.formats import Wrong, demand, number_of, remark
 from life_tools.journal.copied_folder import JOURNAL
 from life_tools.tables.basis import NAME
 
-# where a copy that is sent to another machine lies here
+# the folder beside the book that keeps the copy sent to another machine
 KEPT = ".backup"
 MOST_SECONDS = 86_400
 
@@ -49,7 +49,8 @@ def arguments(parser: argparse.ArgumentParser) -> None:
 
 
 def copied(options: argparse.Namespace) -> Copied:
-    """One round: basis and tables first, then the journal with the seal of both, then the log, which may know of more."""
+    """Copies once: basis and tables first, then the journal with the seal of both, and then the log, which may know later
+    postings."""
     bases = options.basis or ["basis.csv"]
     to = os.path.join(options.folder, KEPT) if is_place(options.to) else options.to
     journal = os.path.join(options.folder, JOURNAL)
@@ -72,7 +73,7 @@ def tell(done: Copied) -> None:
 
 
 def rounds(seconds: int) -> Iterator[None]:
-    """A round now, and each so many seconds."""
+    """Yields at once, and then every so many seconds."""
     due = time.monotonic()
     while True:
         yield
@@ -81,7 +82,7 @@ def rounds(seconds: int) -> Iterator[None]:
 
 
 def go_on(options: argparse.Namespace, seconds: int) -> int:
-    """Copies again and again. What could not be done is tried again; a difference ends it."""
+    """Copies again and again. A failure is tried again; a difference ends the loop."""
     for _ in rounds(seconds):
         try:
             done = copied(options)

@@ -36,7 +36,7 @@ MOST_WAIT = 999_999
 # --- the words ---
 
 def program_words(options: argparse.Namespace) -> tuple[str, ...]:
-    """The words of the program; those that belong to a list aren't among them."""
+    """Returns the arguments for the program, without those that belong to the list."""
     word, *given = options.words
     wanted = {"value": 1, "project": 2, "position-on": 1}.get(word, 0)
     demand(len(given) == wanted, f"{word} takes {wanted} arguments")
@@ -88,7 +88,7 @@ def print_lines(front: str, lines: Sequence[Sequence[str]]) -> None:
 
 
 def print_book(outcome: Outcome) -> None:
-    """The lines of a book: all of them, where they are kept, or those that are added up; or that it failed."""
+    """Prints the lines of a book: all of them if they were kept, otherwise those that are added up, or that the book failed."""
     if outcome.text is None:
         print_lines(outcome.name, [["failed", str(outcome.status), outcome.line]])
     elif outcome.rows:
@@ -124,7 +124,7 @@ def print_all(outcomes: list[Outcome]) -> int:
 
 
 def print_own(options: argparse.Namespace, outcomes: list[Outcome]) -> int:
-    """The books that failed, and what these tools made of all others together."""
+    """Prints the books that failed, and what these tools made of all others together."""
     for outcome in outcomes:
         if outcome.status:
             print_book(outcome)
@@ -140,18 +140,18 @@ def write_list_of_parts(asked: Asked, outcomes: list[Outcome]) -> None:
 
 
 def overlapping(outcomes: list[Outcome]) -> list[int]:
-    """The places of the books that have a number which begins like one of another book."""
+    """Returns the places of the books that have a policy number with the same first bytes as one of another book."""
     begun = Counter(each for outcome in outcomes for each in outcome.beginnings)
     return [place for place, outcome in enumerate(outcomes) if any(begun[each] > 1 for each in outcome.beginnings)]
 
 
 def numbered(book: ListedBook, outcome: Outcome, place: int) -> Iterator[tuple[int, int]]:
-    """The numbers of the policies of a book at its position, each with the book's place."""
+    """Returns the numbers of the policies of a book at its position, each with the book's place."""
     return zip(columns_at(book.journal, outcome.position).policies(), itertools.repeat(place))
 
 
 def tell_twice(books: list[ListedBook], outcomes: list[Outcome]) -> int:
-    """Reports the numbers that stand in two books; gives how many there are."""
+    """Reports the policy numbers that are in two books, and returns how many there are."""
     merged = heapq.merge(*(numbered(books[place], outcomes[place], place) for place in overlapping(outcomes)))
     found = 0
     for number, group in itertools.groupby(merged, key=itemgetter(0)):
@@ -166,7 +166,7 @@ def tell_twice(books: list[ListedBook], outcomes: list[Outcome]) -> int:
 
 
 def tell_left_out(options: argparse.Namespace, asked: Asked) -> bool:
-    """Reports that the lines of policies are left out, which a cluster doesn't send back, unless that was asked for."""
+    """Reports that the lines of policies are left out, because a cluster does not send them back; returns whether it did."""
     are_lines = asked.words[0] in ("value", "state")
     if not are_lines or asked.parts or asked.are_rows_kept or options.totals:
         return False
@@ -211,8 +211,10 @@ def arguments(parser: argparse.ArgumentParser) -> None:
 
 
 def word_in(options: argparse.Namespace) -> str:
-    """The word that the list is asked for. `headroom` may precede the list, and `audit` before the words that it has
-    of one book."""
+    """Returns the command for the list.
+
+    `headroom` may precede the list, and `audit` may precede the commands that it has for one book.
+    """
     if options.list == "headroom":
         options.list, options.words = options.words[0], ["headroom", *options.words[1:]]
     if options.words[0] == "audit" and set(options.words[1:2]) & set(books_audit.WORDS):

@@ -22,7 +22,7 @@ from life_tools.common.program import program_asked
 from life_tools.audit.samples import BY, asked_in, sample_from, seed_in
 from life_tools.audit.sampling import draw
 
-# those of which each book's belongs to all others', and so none is given without one
+# commands whose result needs all books, so that there is none if a book fails
 OF_ALL = ("sample", "papers", "letters")
 ON_A_SAMPLE = ("papers", "letters")
 WORDS = ("flags", *OF_ALL)
@@ -35,7 +35,7 @@ def by_in(options: argparse.Namespace) -> str:
 
 
 def words_of(options: argparse.Namespace, measure: str) -> tuple[str, ...]:
-    """The words of each book's task after the first."""
+    """Returns the words of each book's task after the first."""
     word, *given = options.words
     if word == "flags":
         return (str(late_in(options.late or str(DAYS_LATE))),)
@@ -52,7 +52,7 @@ def words_of(options: argparse.Namespace, measure: str) -> tuple[str, ...]:
 
 
 def drawn_at(options: argparse.Namespace, books: Sequence[ListedBook]) -> Parts:
-    """Each book's part of the sample that papers or letters are asked of."""
+    """Returns each book's part of the sample for which papers or letters are made."""
     if options.words[0] not in ON_A_SAMPLE:
         return {}
     path, names = options.words[1], [book.name for book in books]
@@ -70,7 +70,10 @@ def show_flags(options: argparse.Namespace, well: Sequence[Outcome]) -> int:
 
 
 def show_sample(options: argparse.Namespace, well: Sequence[Outcome]) -> int:
-    """A sample of the rows of all books as one: 1 where rows have a word, which by a reserve count for nothing."""
+    """Prints a sample drawn from the rows of all books together.
+
+    Returns 1 if rows have a word: by their reserve they count for nothing.
+    """
     of, by = [outcome.made.what for outcome in well], by_in(options)
     drawn = draw(np.concatenate([each.sizes for each in of]), asked_in(options.words[1]), seed_in(options.seed))
     begins = np.cumsum([0, *(len(each.rows) for each in of)])

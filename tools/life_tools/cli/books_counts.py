@@ -21,7 +21,7 @@ from life_tools.journal.wholeness import demand_undamaged, tell
 
 
 class Counted(NamedTuple):
-    """What is said of a book: its line, what is remarked, and the status; or how it failed."""
+    """What is printed about a book, its line and its remarks, and the status; or how it failed."""
 
     line: str
     remarks: str
@@ -44,7 +44,7 @@ def counted(look: Look, book: ListedBook) -> Counted:
 
 
 def each_of(look: Look, books: Sequence[ListedBook], processes: int) -> Iterator[Counted]:
-    """What is said of each book, in their order; what is remarked is reported with it."""
+    """Yields what is printed about each book, in their order; the remarks on a book are printed with it."""
     progress = Progress("books", len(books))
     with ProcessPoolExecutor(min(processes, len(books))) as pool:
         for done, found in enumerate(pool.map(partial(counted, look), books), 1):
@@ -66,7 +66,10 @@ def position_of(day: int, is_last: bool, book: ListedBook) -> tuple[str, int]:
 
 
 def written(look: Look, books: Sequence[ListedBook], processes: int) -> int:
-    """The line of each book; one that can't be read is a line as well, and its status is the whole's."""
+    """Prints the line of each book; a book that cannot be read has a line too.
+
+    Returns the status of the first such book if any.
+    """
     failed, told = 0, 0
     for each in each_of(look, books, processes):
         if each.failed:
@@ -81,7 +84,7 @@ def written(look: Look, books: Sequence[ListedBook], processes: int) -> int:
 
 
 def run_position_on(books: Sequence[ListedBook], day: int, is_last: bool, processes: int) -> int:
-    """The position of a day in each book; 1 where one lacks a command, or has one too many."""
+    """Prints the position of a day in each book. Returns 1 if a position lacks a command or has one too many."""
     return written(partial(position_of, day, is_last), books, processes)
 
 

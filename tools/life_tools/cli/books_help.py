@@ -9,7 +9,7 @@ from life_tools.cli.books_own import OPTIONS
 
 
 class Help(NamedTuple):
-    """A command's arguments after its name, what it does, and an example."""
+    """The arguments of a command after its name, what it does, and an example."""
 
     arguments: str
     does: str
@@ -36,7 +36,7 @@ COMMANDS = {
 }
 SPLIT = Help("RULE.. FOLDER..", "divides a book: each rule makes one in a new folder",
              "numbers=1-4999 others a b > list")
-# options that belong to commands, beside those of books_own; one that is named in neither belongs to all
+# options that belong to certain commands, in addition to those of books_own; an option in neither belongs to all commands
 PROGRAMS = ("value", "project", "state", "checkpoint")
 BELONGS = {"last": ("position-on",), "mean": ("value", "report", "movement", "statement", "sample"),
            "deficiency": ("value", "report", "movement"), "workers": ("value", "project"),
@@ -75,7 +75,7 @@ book that failed; 2 if it could not be done.
 
 
 def of_command(parser: argparse.ArgumentParser, command: str) -> str:
-    """One command with its own options, laid out as the parser does."""
+    """Returns the help of one command with its own options, in the parser's layout."""
     about = SPLIT if command == "split" else COMMANDS[command]
     called = "split JOURNAL" if command == "split" else f"LIST {command}"
     page = parser.formatter_class(prog=parser.prog)
@@ -97,12 +97,12 @@ def of_command(parser: argparse.ArgumentParser, command: str) -> str:
 
 
 def asked(words: Sequence[str]) -> str | None:
-    """The command that arguments ask the help of."""
+    """Returns the command whose help the arguments ask for, or None."""
     return next((word for word in words if word in COMMANDS or word == "split"), None)
 
 
 def use_for(parser: argparse.ArgumentParser) -> None:
-    """Has the parser print this help."""
+    """Makes the parser print this help."""
     def page() -> str:
         command = asked(sys.argv[1:])
         return of_command(parser, command) if command else general()

@@ -30,12 +30,12 @@ from life_tools.reports.sheet_pages import page
 from life_tools.reports.sheets import Sheet
 from life_tools.reports.statement import of_books
 
-# how many words follow each, and how many of these are days
+# how many arguments follow each command, and how many of these are days
 TAKES = {"report": 1, "movement": 2, "statement": 2, "due": 1, "flags": 0, "sample": 1, "papers": 1, "letters": 1}
 DAYS = {"report": 1, "movement": 2, "statement": 2, "due": 1}
 WITH_SHEETS = ("report", "movement", "statement")
 FROM_ROWS = ("report", "sample")
-# what belongs to which words, by the names that options have, and by those that they are given under
+# the commands to which each option belongs, by the option's name in the parser; TOLD_AS has the names as they are typed
 OPTIONS = {"by": FROM_ROWS, "seed": ("sample",), "on": ("sample", "split"), "late": ("flags",), "rows": FROM_ROWS,
            "opening": ("movement", "statement", "flags"), "csv": WITH_SHEETS, "xlsx": WITH_SHEETS,
            "html": (*WITH_SHEETS, "papers"), "pdf": ("papers",), "title": (*WITH_SHEETS, "papers"),
@@ -43,9 +43,9 @@ OPTIONS = {"by": FROM_ROWS, "seed": ("sample",), "on": ("sample", "split"), "lat
            "within": ("headroom", "due"), "today": ("headroom",), "least": ("headroom",), "recorded": ("headroom",),
            "at": ("value", "project", "state", "checkpoint", *TAKES), "basis": ("split",)}
 TOLD_AS = {"opening": "from"}
-# so many words and more aren't listed
+# if an option belongs to so many commands, they are not listed
 MOST_TOLD = 8
-# how many files of bases may be given
+# how many files may follow --bases
 MOST_BASES = {"movement": 2}
 
 
@@ -67,7 +67,7 @@ def add_arguments(parser: argparse.ArgumentParser) -> None:
 
 
 def demand_options(options: argparse.Namespace, word: str) -> None:
-    """Demands that no option is given that the command would ignore."""
+    """Raises Wrong if an option is given that the command would ignore."""
     for name, words in OPTIONS.items():
         belongs = f"belongs to {' and '.join(words)}" if len(words) < MOST_TOLD else f"doesn't belong to {word}"
         demand(getattr(options, name) is None or word in words, f"--{TOLD_AS.get(name, name)} {belongs}")
@@ -82,7 +82,7 @@ def measure_in(options: argparse.Namespace) -> str:
 
 
 def bases_of(options: argparse.Namespace) -> tuple[Bases, ...]:
-    """The bases of classes, and those that they are changed to; none where each book has its own."""
+    """Returns the bases of classes, and those to which they are changed, or () if each book has its own basis."""
     if not options.classes and not options.bases:
         return ()
     most = MOST_BASES.get(options.words[0], 1)
@@ -91,7 +91,7 @@ def bases_of(options: argparse.Namespace) -> tuple[Bases, ...]:
 
 
 def words_of(options: argparse.Namespace) -> tuple[str, ...]:
-    """The words of each book's task."""
+    """Returns the words of each book's task."""
     word, *given = options.words
     measure, count = measure_in(options), TAKES[word]
     demand(len(given) == count or word == "due" and len(given) == 2, f"{word} takes {count} arguments")
@@ -111,7 +111,7 @@ def words_of(options: argparse.Namespace) -> tuple[str, ...]:
 
 
 def rows_left(folder: str, books: Sequence[ListedBook]) -> dict[str, tuple[str, str]]:
-    """Of each book the file of rows, and its sum, as the list of parts states them."""
+    """Returns for each book the file of its rows and the checksum, from the list of parts."""
     path = os.path.join(folder, "parts.csv")
     found = {row.fields[0]: (row.fields[2], row.fields[3]) for row in rows_in(bytes_of(path)) if len(row.fields) == 4}
     for book in books:
@@ -129,13 +129,13 @@ def facts_of(options: argparse.Namespace, outcomes: Sequence[Outcome]) -> dict[s
 
 
 def bases_told(options: argparse.Namespace) -> dict[str, str]:
-    """The basis of each class, where there are classes."""
+    """Returns the basis of each class, if there are classes."""
     changes = [", ".join(f"{name} by {basis}" for name, basis in bases.basis_of_class) for bases in bases_of(options)]
     return {"classes": "; then ".join(changes)} if changes else {}
 
 
 def report_sheets(options: argparse.Namespace, outcomes: Sequence[Outcome]) -> list[Sheet]:
-    """A table of the books, and those that were asked for, of all books together."""
+    """Returns a table of the books, and the tables that were asked for, each for all books together."""
     made: list[Reported] = [outcome.made.what for outcome in outcomes]
     total = made[0].total
     for each in made[1:]:
@@ -166,7 +166,7 @@ SHEETS: dict[str, Callable[[argparse.Namespace, Sequence[Outcome]], list[Sheet]]
 
 
 def show_sheets(options: argparse.Namespace, well: Sequence[Outcome], is_whole: bool) -> None:
-    """Prints the sheets, or writes them, which is done of all books alone."""
+    """Prints the sheets or writes them; they are written only if no book is left out."""
     sheets, facts = SHEETS[options.words[0]](options, well), facts_of(options, well)
     facts = {"of": f"{' '.join(options.words)}, {measure_in(options)}", **facts}
     title = f"{facts['book']}: {facts['of']}"
@@ -194,7 +194,10 @@ def show_due(well: Sequence[Outcome]) -> None:
 
 
 def show(options: argparse.Namespace, outcomes: Sequence[Outcome]) -> int:
-    """Prints what was made of the books that are well; of what is drawn of all together nothing where one isn't."""
+    """Prints what was made of the books that did not fail.
+
+    What is drawn from all books together is printed only if none failed.
+    """
     well, word = [outcome for outcome in outcomes if outcome.made], options.words[0]
     is_whole = len(well) == len(outcomes)
     if not well or word in books_audit.OF_ALL and not is_whole:

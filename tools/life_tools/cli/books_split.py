@@ -35,7 +35,7 @@ def add_arguments(parser: argparse.ArgumentParser) -> None:
 
 
 def words_in(words: list[str]) -> tuple[str, list[str], list[str]]:
-    """The journal, the rules and the folders."""
+    """Returns the journal, the rules and the folders."""
     demand(words, "split wants a journal, rules and folders")
     journal, *rest = words
     rules = [word for word in rest if is_rule(word)]
@@ -87,7 +87,7 @@ def divide(options: argparse.Namespace, journal: str, basis: str, words: list[st
 
 
 def demand_still(division: Division, journal: str) -> None:
-    """Demands that the old book is what it was when it was read."""
+    """Raises Unlike unless the old book is the same as when it was read."""
     if bytes_of(journal)[:len(division.data) - 1] != division.data[:-1]:
         raise Unlike(f"{journal} has changed meanwhile")
 

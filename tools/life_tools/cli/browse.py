@@ -43,7 +43,7 @@ def run(options: argparse.Namespace) -> int:
     port = port_in(options.port)
     demand(NAME.fullmatch(options.basis), f"{options.basis} is no name of a basis file")
     if options.life:
-        # what the window runs finds the same program
+        # the tools and runs that the window starts find the same program
         demand(os.path.isfile(options.life), f"{options.life} is no program")
         os.environ["LIFE_PROGRAM"] = os.path.abspath(options.life)
     folder = os.path.realpath(options.folder)

@@ -46,7 +46,7 @@ def arguments(parser: argparse.ArgumentParser) -> None:
 
 
 def look_over(lines: list[Line], transcript: str, desk: Desk, doubts: Doubts) -> dict[int, list[str]]:
-    """What is reported of rows, by their numbers."""
+    """Returns the remarks on rows, by their row numbers."""
     left = {lane: iter(rows) for lane, rows in lanes_of(lines).items()}
     told: dict[int, list[str]] = {}
     for head, *_ in answers_in(transcript)[0]:
@@ -63,7 +63,7 @@ def look_over(lines: list[Line], transcript: str, desk: Desk, doubts: Doubts) ->
 
 
 def answered(trial: Trial) -> str:
-    """The transcript of the dry run, in which the program judges the journal."""
+    """Returns the transcript of the dry run, in which the program also judges the journal."""
     status, transcript = trial.answer()
     if transcript.startswith("badjournal,"):
         from life_tools.journal.columns import looked_at, taken
@@ -74,11 +74,11 @@ def answered(trial: Trial) -> str:
 
 
 def tried(options: argparse.Namespace, lines: list[Line], desk: Desk) -> str:
-    """The transcript of the dry run; the desk gets what the policies of the lines have in the journal."""
+    """Returns the transcript of the dry run. `desk` gets the commands that the journal has for the policies of the lines."""
     with trial_of(options.script, options.folder, options.basis, life_command(options.life)) as trial:
         tell_doubt(trial.path, trial.seen)
         data, count = trial.records()
-        # numpy takes a tenth of a second, in which the program is at work
+        # importing numpy takes a tenth of a second, in which the program already runs
         from life_tools.journal.records import places_in, upgrade_in
 
         upgrade = upgrade_in(data, count)

@@ -51,7 +51,7 @@ STOPPED = 130
 
 
 def arguments(parser: argparse.ArgumentParser) -> None:
-    # argparse keeps a group of options that exclude each other on one line, however wide
+    # argparse would print a group of mutually exclusive options on a single line of any width
     parser.usage = "%(prog)s [OPTION ..] [FILE ..]"
     parser.add_argument("files", metavar="FILE", nargs="*", help="the files to post (inbox/*.csv)")
     what = parser.add_mutually_exclusive_group()
@@ -73,7 +73,7 @@ def arguments(parser: argparse.ArgumentParser) -> None:
 
 
 def files_in(options: argparse.Namespace) -> list[str]:
-    """The files that are given, or those that lie in the inbox by now."""
+    """Returns the files that are given, or else those that are in the inbox now."""
     if options.files:
         return list(dict.fromkeys(options.files))
     if options.release or options.discard or options.restored:
@@ -83,7 +83,7 @@ def files_in(options: argparse.Namespace) -> list[str]:
 
 
 def untaken_in(options: argparse.Namespace) -> Iterator[str]:
-    """What is to be said of an inbox from which files are taken: that it isn't there, or what lies there under other names."""
+    """Yields what to report about the inbox: that it does not exist, or files in it that are not taken because of their names."""
     if options.files or options.release or options.discard or options.restored:
         return
     inbox = os.path.normpath(os.path.join(options.folder, "inbox"))
@@ -116,7 +116,7 @@ def patience_in(options: argparse.Namespace) -> Patience:
 
 
 def judge_of(options: argparse.Namespace) -> Callable[[Day], None]:
-    """What a person says of held rows, to be taken up once all that was interrupted is finished."""
+    """Returns a function that applies a person's judgement of held rows, once everything interrupted is finished."""
     judgement = Judgement(options.by or login(), options.why, tuple(lines_in(options)))
 
     def judge(day: Day) -> None:
@@ -138,7 +138,7 @@ def worked(options: argparse.Namespace, stop: Stopping) -> int:
         sync_folder(options.folder)
     lock = lock_log(os.path.join(log.path, LOCK), patience)
     try:
-        # what was handed in while another `day` was waited for is taken, too
+        # files that were handed in while this run waited for another `day` are taken as well
         asked = Asked(options.folder, files_in(options), options.new, today, settings)
         day = Day(asked, Program(program_asked(options.life), options.folder, options.basis, lock), patience, stop)
         if options.restored:

@@ -42,7 +42,7 @@ DAYS_OF_GRACE = GRACE.days
 
 
 class Due(NamedTuple):
-    """Items as columns: places in WHATS; days; policies; the last days, or NEVER; cents; the first days that take their lines."""
+    """Items as columns: index in WHATS; day; policy; last day or NEVER; cents; the first day on which its line is accepted."""
 
     what: Array
     day: Array
@@ -53,7 +53,7 @@ class Due(NamedTuple):
 
 
 class Items:
-    """What is due from a first day to a last one of some policies, each of which takes no line before a day of its own."""
+    """Finds what is due for policies from a first to a last day; no policy accepts a line before its own first day."""
 
     def __init__(self, policies: Policies, day: int, within: int) -> None:
         self.last = min(day + within, LAST)
@@ -63,7 +63,7 @@ class Items:
         self.found: list[Due] = []
 
     def find(self, what: int, chosen: Array, day: Array, until: Array | np.int32, cents: Cents, first: Array) -> None:
-        """An item of each of the chosen policies; all else is reported of all policies."""
+        """Adds an item for each policy that `chosen` marks; the other arguments have values for all policies."""
         count = int(np.count_nonzero(chosen))
         until = until[chosen] if isinstance(until, np.ndarray) else np.full(count, until)
         self.found.append(Due(np.full(count, what), day[chosen], self.of.number[chosen], until, cents[chosen], first[chosen]))
@@ -74,12 +74,13 @@ class Items:
         self.find(SETTLE, of.outstanding > 0, of.last, NEVER, of.outstanding, self.first)
         self.lapsed(of.status == LAPSED)
         items = Due(*(np.concatenate(column) for column in zip(*self.found)))
-        # what, day and number tell all items apart
+        # kind, day and number together are unique
         order = np.lexsort((items.number, items.day, items.what))
         return Due(*(column[order] for column in items))
 
     def paying(self, paying: Array) -> None:
-        """Of those of which a premium is to come, and of those of which none is."""
+        """Finds the items of policies with a premium to come, which `paying` marks, and the maturities of all insured
+        policies."""
         of, first, due = self.of, self.first, self.due
         grace_end = np.where(paying, due, 0) + DAYS_OF_GRACE
         self.find(LAPSE, paying & (first > grace_end), due, grace_end, of.premium, first)
@@ -88,12 +89,12 @@ class Items:
         self.find(IN_GRACE, paying & (first > due) & (first < of.end), due, grace_end, of.premium, first)
         ended = np.maximum(of.end, first)
         self.find(LAPSE, paying & (ended > grace_end) & (grace_end < self.last), due, grace_end, of.premium, grace_end + 1)
-        # who takes no further premium, or ends within the grace of one
+        # policies that take no further premium, or whose cover ends within the grace of one
         ending = (paying & (ended <= grace_end)) | (is_insured(of) & (due == NEVER))
         self.find(MATURE, ending & (ended <= self.last), of.end, NEVER, np.where(of.plan == TERM, 0, of.amount), ended)
 
     def lapsed(self, lapsed: Array) -> None:
-        """The right to reinstate, for the premiums missed up to the first day."""
+        """Finds the policies that can be reinstated, for the premiums missed up to their first day."""
         of = self.of
         until = np.minimum(anniversaries(of.issued, of.paid + REINSTATEMENT_ANNIVERSARIES), of.end - 1)
         self.find(REINSTATE, lapsed & (self.first <= until), of.last, until, missed(of, self.first) * of.premium, self.first)

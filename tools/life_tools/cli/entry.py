@@ -10,7 +10,7 @@ from typing import Sequence
 from life_tools.common.packages import see
 from life_tools.common.streams import ended, take_standard_streams
 
-# name -> the module of life_tools.cli that answers it, and what it does, in one line
+# name -> the module of life_tools.cli that runs it, and what it does, in one line
 ENTRIES: dict[str, tuple[str, str]] = {
     "day": ("day", "post the files of the inbox, and keep what came of each row"),
     "log": ("log", "who posted what, when, from which file, and who released it"),
@@ -47,13 +47,16 @@ ENTRIES: dict[str, tuple[str, str]] = {
     "version": ("version", "version, revision, and whether program and tools belong together"),
 }
 
-# those that read in bulk
+# entries that read in bulk, and need numpy
 BY_NUMPY = {"audit", "books", "browse", "check", "day", "due", "export", "headroom", "log", "movement", "position-on", "read",
             "read-checkpoint", "report", "rest", "statement", "why"}
 
 
 def parser_of(names: Sequence[str]) -> argparse.ArgumentParser:
-    """The parser of all entries; only the modules of those named are read, since some need packages of their own."""
+    """Returns the parser of all entries.
+
+    Only the modules of the named ones are imported, since some need packages of their own.
+    """
     parser = argparse.ArgumentParser(prog="life-tools", description="The work around `life`. Each name has --help, with an "
                                      "example. The status is 0 if all is well, 1 if something is reported, 2 if it could not "
                                      "be done.")
@@ -71,16 +74,16 @@ def parser_of(names: Sequence[str]) -> argparse.ArgumentParser:
 
 
 def asked_for(given: list[str]) -> list[str]:
-    """The arguments, where `help`, `help NAME` and no argument at all ask for help as --help does."""
+    """Returns the arguments; `help`, `help NAME` and no argument at all become --help."""
     if given[:1] in ([], ["help"]):
         return [*given[1:2], "--help"]
     return given
 
 
 def main(words: Sequence[str] | None = None) -> int:
-    """Runs an entry: 0 all is well, 1 something was found wrong, 2 it could not be done."""
+    """Runs an entry. Returns 0 if all is well, 1 if something was found wrong, 2 if it could not be done."""
     given = list(sys.argv[1:] if words is None else words)
-    # millions of rows make no cycles, and looking for some among them takes as long as making them
+    # millions of rows make no reference cycles, and searching them for cycles takes as long as making them
     gc.disable()
     take_standard_streams()
 

@@ -65,7 +65,7 @@ def json_template(kind: str) -> str:
 
 
 def write_lines(options: argparse.Namespace) -> None:
-    """Each record as a line."""
+    """Writes each record as a line."""
     records = columns_at(options.journal).records
     if options.form == "csv":
         sys.stdout.write(",".join(COLUMNS) + "\n")
@@ -100,13 +100,13 @@ def tables_of(book: Columns, valuations: list[str]) -> Iterator[tuple[str, Itera
 
 
 def column(table: str, name: str) -> str:
-    """The definition of a column."""
+    """Returns the definition of a column."""
     kind = "integer" if name in WHOLE or name.endswith("cents") else "text"
     return f"{name} {kind}{' primary key' if name == TABLES[table][0] and table in ('command', 'policy') else ''}"
 
 
 def write_sqlite(path: str, tables: Iterable[tuple[str, Iterator[TableRow]]]) -> None:
-    """Writes the tables into a file that is thrown away where anything fails, so no journal has to be kept for it."""
+    """Writes the tables into a file that is deleted if anything fails; it therefore needs no journal of SQLite's."""
     database = sqlite3.connect(path, isolation_level=None)
     for pragma in ("journal_mode", "synchronous"):
         database.execute(f"pragma {pragma} = off")
@@ -135,7 +135,7 @@ def write_frames(folder: str, tables: Iterable[tuple[str, Iterator[TableRow]]]) 
 
 
 def write_tables(options: argparse.Namespace) -> None:
-    """Makes what is asked for beside its place, and puts it there once it is whole."""
+    """Makes the file or folder under a temporary name, and renames it once it is complete."""
     made = os.path.abspath(options.made)
     demand(not os.path.lexists(made), f"{options.made} is there already")
     demand(os.path.isdir(os.path.dirname(made)), f"{os.path.dirname(options.made)} is no folder")

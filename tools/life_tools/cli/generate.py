@@ -23,7 +23,7 @@ def arguments(parser: argparse.ArgumentParser) -> None:
 
 
 def renumbered(row: str, more: int) -> str:
-    """A row of the script, of a policy whose number is so much greater."""
+    """Returns a row of the script with `more` added to its policy number."""
     lane, kind, number, rest = row.split(",", 3)
     return f"{lane},{kind},{int(number) + more},{rest}"
 
@@ -33,7 +33,7 @@ def run(options: argparse.Namespace) -> int:
     if first is None:
         raise Wrong(f"--from {options.first}: a policy's number is wanted, 1 to {MOST_NUMBER}")
     demand(count is None or first + count - 1 <= MOST_NUMBER, f"the last number would be above {MOST_NUMBER}")
-    # which touches no journal, and so may run anywhere
+    # `generate` uses no journal, so it can run in any folder
     status, printed = run_in(".", life_command(options.life), ["generate", *options.words])
     if status:
         remark(f"life generate {' '.join(options.words)} ended with {status}: {printed.strip()[:200]}")

@@ -36,7 +36,8 @@ MOST_DAYS = 36525
 
 
 class Wanted(NamedTuple):
-    """Today, the least commands that are to be left, the days within which none may be full, and noted positions by names."""
+    """The present day, the least number of commands to be left, the days within which no book may be full, and noted
+    positions."""
 
     today: int
     least: int
@@ -55,7 +56,7 @@ def wanted_of(options: argparse.Namespace) -> Wanted:
 
 
 def room_at(path: str, name: str, wanted: Wanted) -> tuple[Room, int]:
-    """The room of a book, which must not be damaged; and 1 where something of the book was reported."""
+    """Returns the capacity of a book, which must not be damaged, and 1 if something about the book was reported."""
     status = tell(demand_undamaged(path))
     holder = holder_of(path)
     if holder:
@@ -66,7 +67,7 @@ def room_at(path: str, name: str, wanted: Wanted) -> tuple[Room, int]:
 
 
 def told_of(name: str, room: Room, wanted: Wanted) -> int:
-    """Reports what is to be reported of a book's room: 1, or 0 where nothing is."""
+    """Reports what is to be reported about a book's capacity. Returns 1, or 0 if nothing is."""
     warnings = list(room.warnings(wanted.today, wanted.least, wanted.within))
     for warning in warnings:
         remark(f"{name}: {warning}")
@@ -74,7 +75,7 @@ def told_of(name: str, room: Room, wanted: Wanted) -> int:
 
 
 def add_arguments(parser: argparse.ArgumentParser) -> None:
-    """What `books headroom` takes, too; None where it isn't given."""
+    """Adds the arguments that `books headroom` also takes; each is None if it is not given."""
     parser.add_argument("--today", metavar="DAY", help="headroom: the day from which it is counted (that of this machine)")
     parser.add_argument("--least", metavar="N", help="headroom: 1 where fewer commands are left")
     parser.add_argument("--within", metavar="DAYS", help=f"headroom: 1 where a book is full within so many ({AHEAD}); "

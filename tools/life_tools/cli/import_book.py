@@ -39,7 +39,7 @@ def lines_of(made: Mapped, lanes: int) -> Iterator[str]:
 
 
 def parts_of(lines: Iterator[str]) -> list[list[str]]:
-    """The lines in parts of at most the bytes of a script."""
+    """Returns the lines in parts of at most the size of a script."""
     parts: list[list[str]] = [[]]
     size = 0
     for line in lines:
@@ -52,14 +52,14 @@ def parts_of(lines: Iterator[str]) -> list[list[str]]:
 
 
 def names_of(script: str, parts: int) -> list[str]:
-    """The script's own name, or those of its parts, of one length, so that `*.csv` names them in order."""
+    """Returns the script's own name, or the names of its parts, padded to one length so that `*.csv` lists them in order."""
     front, ending = os.path.splitext(script)
     width = len(str(parts))
     return [script] if parts == 1 else [f"{front}-{part:0{width}}{ending}" for part in range(1, parts + 1)]
 
 
 def write(options: argparse.Namespace, made: Mapped, parts: list[list[str]]) -> list[str]:
-    """Writes the parts and the list of what is left; where one can't be written, none of them stays."""
+    """Writes the parts and the list of rows that are left; if one cannot be written, all of them are removed."""
     names, written = names_of(options.script, len(parts)), []
     for name in (*names, options.left, *([options.classes] if options.classes else [])):
         demand(not os.path.lexists(name), f"{name} is there already")

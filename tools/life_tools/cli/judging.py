@@ -7,7 +7,7 @@ from life_tools.common.formats import Wrong, remark
 
 
 def judged(judge: Callable[[], str]) -> int:
-    """0 and the judge's line where it is content, else 1 and what it found."""
+    """Prints the judge's line and returns 0, or reports what the judge found wrong and returns 1."""
     try:
         print(judge())
     except Wrong as wrong:

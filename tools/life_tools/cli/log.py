@@ -29,7 +29,7 @@ from life_tools.journal.copied_folder import JOURNAL
 from life_tools.journal.wholeness import demand_undamaged
 from life_tools.rules.commands import words_of
 
-# so many postings that the log doesn't name are listed
+# at most so many postings that the log does not name are listed
 MOST_LISTED = 20
 
 
@@ -50,7 +50,7 @@ def wanted_in(options: argparse.Namespace) -> Wanted:
 
 
 def unnamed(journal: str, count: int, wanted: Wanted, named: set[int]) -> list[int]:
-    """The positions of the journal that the log doesn't name."""
+    """Returns the positions of the journal that the log does not name."""
     return [position for position in positions_wanted(journal, count, wanted) if position not in named]
 
 

@@ -39,7 +39,7 @@ from life_tools.reports.sheet_files import write_workbook
 from life_tools.reports.sheet_pages import page
 from life_tools.reports.sheets import BY_BOUNDS
 
-# so many policies are written at once
+# number of policies that are written at once
 AT_ONCE = 1 << 14
 
 
@@ -62,7 +62,7 @@ def arguments(parser: argparse.ArgumentParser) -> None:
 
 
 def bases_of(options: argparse.Namespace) -> list[Bases]:
-    """The bases, and those that they are changed to, if these are given."""
+    """Returns the bases, and those to which they are changed if these are given."""
     demand(len(options.basis or []) <= 2 and len(options.bases or []) <= 2, "there are two bases at most")
     if options.basis and not options.classes and not options.bases:
         return [bases_in(name, None, None) for name in options.basis]
@@ -85,7 +85,7 @@ class Moment(NamedTuple):
 
 
 class Books:
-    """The valuations and states of both positions, and what was posted between them."""
+    """The valuations and states at both positions, and the postings between them."""
 
     def __init__(self, asked: Moment, later: Moment, bases: list[Bases], measure: str, folder: str, life: str | None) -> None:
         on1, first, on2, last = *asked, *later
@@ -104,7 +104,7 @@ class Books:
 
 
 def text_of(changes: Changes, some: slice) -> bytes:
-    """The parts of some policies as rows of CSV."""
+    """Returns the parts of some policies as rows of CSV."""
     letters = Letters(len(changes.number[some]))
     letters.add_number(changes.number[some])
     letters.add_letter(COMMA)
@@ -117,7 +117,7 @@ def text_of(changes: Changes, some: slice) -> bytes:
 
 
 def write_policies(path: str, changes: Changes) -> None:
-    """Each policy's part, many at once."""
+    """Writes each policy's part, many at once."""
     parts = ("opening", "posted", "time", "basis", "closing")
     head = ["policy", "line", *(f"{part} {bound}" for part in parts for bound in ("lower", "upper"))]
     with open(path, "wb") as file:
@@ -134,7 +134,7 @@ def shown(lines: list[Moved]) -> str:
 
 
 def write_files(options: argparse.Namespace, lines: list[Moved], cash: Cash, notes: list[str], title: str) -> None:
-    """The page or the workbook, where one is asked for."""
+    """Writes the page or the workbook if one is asked for."""
     if not options.html and not options.xlsx:
         return
     told = provenance(options.folder, int(options.p2), options.title, options.life)
@@ -146,7 +146,7 @@ def write_files(options: argparse.Namespace, lines: list[Moved], cash: Cash, not
 
 
 def moved_in(books: Books) -> tuple[Changes, list[Moved], Cash]:
-    """The changes of the policies, the lines, and the cash, which add up to what was printed."""
+    """Returns the policies' changes, the lines and the cash, and raises Wrong unless they add up to what was printed."""
     changes = changes_of(books.opening, books.later_book, books.later_day, books.closing, books.records)
     lines, cash = analysis(changes, books.opening, books.closing), cash_of(books.records)
     demand_booked(cash, books.before, books.after)

@@ -32,7 +32,7 @@ def print_books(checkpoint: CheckpointColumns) -> None:
 
 
 def is_of(checkpoint: CheckpointColumns, path: str) -> bool:
-    """Whether these are the books of the first commands of a journal, which has to have so many."""
+    """Returns whether these are the books after a journal's first commands; False if the journal has fewer commands."""
     book, position = columns_at(path), checkpoint.header.position
     if position > book.count:
         remark(f"{path} has {book.count} commands, so the program doesn't use a checkpoint of {position}")

@@ -65,7 +65,7 @@ def add_title(parser: argparse.ArgumentParser) -> None:
 
 
 def keys_in(given: list[str] | None) -> list[list[str]]:
-    """The keys of each table."""
+    """Returns the keys of each table."""
     tables = [text.split(",") for text in given] if given else [[key] for key in DEFAULT]
     for keys in tables:
         for key in keys:
@@ -75,12 +75,12 @@ def keys_in(given: list[str] | None) -> list[list[str]]:
 
 
 def facts_of(options: argparse.Namespace, position: int) -> dict[str, str]:
-    """Where a page or a workbook comes from."""
+    """Returns the facts that say where a page or a workbook comes from."""
     return provenance(options.folder, position, options.title, options.life)
 
 
 def demand_bundle(options: argparse.Namespace) -> None:
-    """Demands, before anything is asked of the program, that a bundle can be made."""
+    """Raises Wrong, before the program is asked for anything, if a bundle cannot be made."""
     if options.bundle:
         asked_in(options.rows), seed_in(options.seed)
         demand(options.measure in MEASURED, "--bundle has terminal or mean reserves, of which rows can be sampled")
@@ -89,7 +89,7 @@ def demand_bundle(options: argparse.Namespace) -> None:
 
 def write_bundle(options: argparse.Namespace, valuation: ColumnValuation, total: Sums, tables: Tables, heads: Sequence[str],
                  bases: Bases) -> None:
-    """The page to hand over, all of it of the position of the valuation."""
+    """Writes the page to hand over; all of it is of the position of the valuation."""
     told = facts_of(options, valuation.position)
     papers = None
     if valuation.total[-1]:

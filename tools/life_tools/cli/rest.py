@@ -46,7 +46,7 @@ def arguments(parser: argparse.ArgumentParser) -> None:
 
 
 def count_before(before: str, journal: str) -> int:
-    """How many commands were accepted before the run; a journal from before has to be the beginning of the one now."""
+    """Returns how many commands were accepted before the run; a journal from before must be a prefix of the present one."""
     if not os.path.exists(before):
         count = number_of(before, 0, MOST_COMMANDS)
         if count is None:
@@ -59,7 +59,7 @@ def count_before(before: str, journal: str) -> int:
 
 
 def beginning(before: str | None, printed: Printed, journal: str) -> int:
-    """How many commands were accepted before the run, as BEFORE says, or what was printed."""
+    """Returns how many commands were accepted before the run, from BEFORE or from what was printed."""
     if before is not None:
         count = count_before(before, journal)
         demand(printed.begun in (None, count), f"before the run there were {count}, and by what is printed {printed.begun}")
@@ -70,7 +70,7 @@ def beginning(before: str | None, printed: Printed, journal: str) -> int:
 
 
 def tell(lanes: dict[int, list[Line]], rest: dict[int, list[Line]], records: int, printed: Printed) -> None:
-    """What was answered of each lane, which valuations were lost, and what was printed and not posted, on standard error."""
+    """Reports how many rows of each lane were answered, which valuations were lost, and which printed rows were not posted."""
     remark(f"accepted in the run: {records}")
     for word, line in printed.unposted:
         remark(f"row {line.row.number} was answered {word}, and isn't in the rest: {line.row.text}")
@@ -83,7 +83,7 @@ def tell(lanes: dict[int, list[Line]], rest: dict[int, list[Line]], records: int
 
 
 def first_of_lanes(lines: list[Line]) -> dict[Command, dict[int, Line]]:
-    """Of each command the first row of each lane that is it."""
+    """Returns for each command the first row in each lane that equals it."""
     found: dict[Command, dict[int, Line]] = {}
     for line in lines:
         if line.command:
@@ -92,7 +92,7 @@ def first_of_lanes(lines: list[Line]) -> dict[Command, dict[int, Line]]:
 
 
 def tell_equal(answered: list[Line], rest: list[Line]) -> None:
-    """Rows of the rest that equal an answered row of another lane."""
+    """Reports rows of the rest that equal an answered row of another lane."""
     firsts = first_of_lanes(answered)
     for line in rest:
         known = firsts.get(line.command, {}) if line.command else {}
@@ -102,7 +102,7 @@ def tell_equal(answered: list[Line], rest: list[Line]) -> None:
 
 
 def tell_full(printed: Printed) -> int:
-    """Reports how many rows found the book full: 1, or 0 where none did."""
+    """Reports how many rows found the book full. Returns 1, or 0 if none did."""
     if printed.full:
         remark(f"rows that found the book full, and aren't in the rest: {len(printed.full)}; --full has them there")
     return 1 if printed.full else 0

@@ -28,7 +28,7 @@ from life_tools.backup.restoring import demand_free, restore
 from life_tools.common.formats import demand, remark
 from life_tools.journal.wholeness import tell
 
-# where what is fetched from another machine lies meanwhile
+# the folder for what is fetched from another machine
 FETCHED = ".fetched"
 
 
@@ -39,7 +39,7 @@ def arguments(parser: argparse.ArgumentParser) -> None:
 
 
 def local_copy(options: argparse.Namespace) -> str:
-    """The copy's folder here, fetched where it is on another machine."""
+    """Returns the copy's folder on this machine, after fetching it if it is on another one."""
     if not is_place(options.copy):
         demand(os.path.isdir(options.copy), f"there is no folder {options.copy}")
         return str(options.copy)

@@ -64,7 +64,7 @@ def asked_in(options: argparse.Namespace) -> Asked:
 
 def run(options: argparse.Namespace) -> int:
     asked = asked_in(options)
-    # before the program is asked, and before a file is written
+    # before the program is asked for anything and before a file is written
     demand_new(*(folder for folder in (options.csv, options.policies) if folder))
     try:
         statement = statement_of(asked)
@@ -77,7 +77,7 @@ def run(options: argparse.Namespace) -> int:
 
 
 def write(statement: Statement, options: argparse.Namespace) -> None:
-    """Writes what was asked for, or prints the sheets."""
+    """Writes the files that were asked for, or prints the sheets."""
     facts, sheets, title = statement.facts, statement.sheets, f"Statement of {statement.facts['book']}"
     if options.csv:
         write_folder(options.csv, lambda folder: write_csvs(folder, facts, sheets))

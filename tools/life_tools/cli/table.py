@@ -51,7 +51,7 @@ def arguments(parser: argparse.ArgumentParser) -> None:
 # --- check ---
 
 def tell_refused(path: str, data: bytes, verdict: str) -> None:
-    """The program's line, the place in the file, and what convert would do about it."""
+    """Prints the program's line, the place in the file, and what `convert` would do about it."""
     _, _, place, word = verdict.split(",")
     print(f"{path} isn't taken: {verdict}")
     if word in WANTED:
@@ -68,7 +68,7 @@ def tell_refused(path: str, data: bytes, verdict: str) -> None:
 
 
 def tell_taken(path: str, data: bytes) -> int:
-    """What is taken of a file, and what is strange about it: 1 where something is."""
+    """Prints what is taken from a file, and what is strange about it. Returns 1 if something is."""
     try:
         root, table = root_of(data), read_table(data, os.path.basename(path))
     except NotXml as wrong:

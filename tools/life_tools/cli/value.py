@@ -29,7 +29,7 @@ def arguments(parser: argparse.ArgumentParser) -> None:
 
 
 def lines_of(valuation: PrintedValuation) -> list[str]:
-    """The lines as the program prints them."""
+    """Returns the lines as the program prints them."""
     measure = [] if valuation.measure == "terminal" else [valuation.measure]
     lines = [["0", "value", str(valuation.on), str(valuation.position), str(len(valuation.rows)), *measure]]
     for row in valuation.rows:

@@ -19,7 +19,7 @@ from life_tools.common.formats import Wrong, bytes_of
 from life_tools.common.program import program_asked, program_beside
 from life_tools.common.revisions import built_with, of_clone
 
-# whether a clone's program is the one that was proved from its sources, as its launcher decides that
+# returns whether a clone's program is the one that was proved from its sources, as its launcher decides it
 IS_CURRENT = 'root=$0; . "$root/tools/launcher/shared.sh"; is_current "$1"'
 
 
@@ -28,7 +28,7 @@ def arguments(parser: argparse.ArgumentParser) -> None:
 
 
 def version_of(clone: str) -> str:
-    """The newest version of a clone's changelog."""
+    """Returns the newest version of a clone's changelog."""
     found = re.search(r"^## (\S+)", bytes_of(os.path.join(clone, "CHANGELOG.md")).decode("utf-8", "replace"), re.M)
     if not found:
         raise Wrong(f"{clone}/CHANGELOG.md has no version")
@@ -73,7 +73,7 @@ def run(options: argparse.Namespace) -> int:
 
 
 def tell_of_asked() -> int:
-    """Whether the program that LIFE_PROGRAM names, which all tools then ask, is the proved one."""
+    """Prints whether the program named by LIFE_PROGRAM, which all tools then run, is the proved one. Returns 1 if it is not."""
     asked = program_asked()
     print(f"wrong: LIFE_PROGRAM names another program: {asked.why}" if asked.why
           else f"asked: LIFE_PROGRAM names the proved program, SHA-256 {asked.sum}")

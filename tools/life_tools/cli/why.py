@@ -30,14 +30,14 @@ def arguments(parser: argparse.ArgumentParser) -> None:
 
 
 def measure_arguments(parser: argparse.ArgumentParser) -> None:
-    """What a valuation shows."""
+    """Adds the arguments for what a valuation shows."""
     measure = parser.add_mutually_exclusive_group()
     measure.add_argument("--mean", dest="measure", action="store_const", const="mean", default="terminal", help="mean reserves")
     measure.add_argument("--deficiency", dest="measure", action="store_const", const="deficiency", help="minimum reserves beside")
 
 
 def position_in(text: str | None) -> int | None:
-    """A position that was given, or none."""
+    """Returns the position that was given, or None."""
     if text is None:
         return None
     position = number_of(text, 0, MOST_COMMANDS)
@@ -55,7 +55,7 @@ def run(options: argparse.Namespace) -> int:
         words = ["value", options.on, "--at", str(copy.position), "--basis", options.basis, *measure_words(options.measure)]
         words += WORKERS
         with copy.begins(*words) as ran:
-            # numpy and the rest take a while to load, in which the program is at work
+            # numpy and the other modules take a while to load; the program already runs meanwhile
             from life_tools.valuations.explained_rows import explained
 
             valued = copy.parts(ran, *words)
