@@ -1,4 +1,7 @@
-"""The versions in CHANGELOG.md: the newest is the one that is packed; Debian wants them in a form of its own."""
+"""Reads the versions in CHANGELOG.md; the newest is the one that is packed.
+
+Debian's packages have a changelog of another form.
+"""
 from __future__ import annotations
 
 import datetime
@@ -14,7 +17,7 @@ HEADING = re.compile(r"## (\d+\.\d+\.\d+) \((\d{4}-\d{2}-\d{2})\)")
 
 @dataclass
 class Version:
-    """A version: its number, its day, and what it brought, an item a line."""
+    """A version: its number, its day, and what it brought, as a list of items."""
 
     number: str
     day: datetime.date
@@ -22,7 +25,7 @@ class Version:
 
 
 def versions_in(text: str) -> list[Version]:
-    """The versions of a changelog, the newest first."""
+    """Returns the versions of a changelog, the newest first."""
     found: list[Version] = []
     for line in text.splitlines():
         heading = HEADING.fullmatch(line)
@@ -48,12 +51,12 @@ def changelog_of(root: str) -> list[Version]:
 
 
 def newest_of(root: str) -> str:
-    """The number of the newest version."""
+    """Returns the number of the newest version."""
     return changelog_of(root)[0].number
 
 
 def debians(versions: list[Version], name: str, maintainer: str) -> str:
-    """The changelog as Debian's packages have it."""
+    """Returns the changelog in the form that Debian's packages have."""
     parts = []
     for version in versions:
         items = [textwrap.fill(re.sub("[`*]", "", item), 78, initial_indent="  * ", subsequent_indent="    ")

@@ -1,9 +1,9 @@
-"""The logic by which the pages claim that the program is proved: it is the one that `sh life prove` noted.
+"""Compares the logic that the pages claim for the proof with the one that `sh life prove` noted.
 
 usage: python3 tools/packing/claimed_logic.py           writes the number of the noted proof into each page
-       python3 tools/packing/claimed_logic.py --check   ends with 1 and names each page that claims another
+       python3 tools/packing/claimed_logic.py --check   ends with 1 and names each page that claims another number
 
-The kit has a name as well, which changes where the logic doesn't; what is claimed is the logic's number, 16 digits after
+The kit has a name as well, which may change while the logic stays the same. The pages claim the logic's number, 16 digits after
 the word `logic`. It is noted in out/proved, from `rt version` at the time of the proof.
 """
 from __future__ import annotations
@@ -24,7 +24,7 @@ def text_of(path: str) -> str:
 
 
 def noted_logic(root: str) -> str | None:
-    """The logic of the noted proof, if there is one."""
+    """Returns the logic of the noted proof, or None if no proof is noted."""
     path = os.path.join(root, "out", "proved")
     found = NOTED.search(text_of(path)) if os.path.isfile(path) else None
     return found[1] if found else None
@@ -38,7 +38,7 @@ def pages_of(root: str) -> Iterator[str]:
 
 
 def claims_in(root: str) -> dict[str, set[str]]:
-    """The numbers that each page claims, if it claims one."""
+    """Returns the numbers that each page claims, for the pages that claim any."""
     found = {path: {claim[2] for claim in CLAIM.finditer(text_of(path))} for path in pages_of(root)}
     return {os.path.relpath(path, root): numbers for path, numbers in found.items() if numbers}
 

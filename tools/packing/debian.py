@@ -1,4 +1,4 @@
-"""The package for Debian, and the tar file with the same."""
+"""Makes the package for Debian, and the tar file with the same files."""
 from __future__ import annotations
 
 import gzip
@@ -12,13 +12,13 @@ import tempfile
 from life_tools.common.formats import Wrong
 from packing.tree import NAME, Release, lay, settle, write
 
-# what the tools need beside Python's own library; each says which one it misses, so none is demanded
+# what the tools use in addition to Python's own library; each tool reports what it misses, so nothing here is required
 RECOMMENDED = ("python3 (>= 3.11)", "python3-flask", "python3-numpy", "python3-openpyxl", "python3-pandas")
 SUGGESTED = ("python3-distributed", "chromium", "libreoffice-calc", "rsync", "openssh-client")
 OVERRIDES = """# The bytes of the program are those that were proved and built, and whose sum proved.txt tells: it isn't stripped.
 life: unstripped-binary-or-object [usr/libexec/life/life-program]
 """
-# The tools are compiled once, for all users; what Python made of them goes when they go.
+# the tools are compiled once for all users; the files that Python made are removed together with the tools
 AFTER_INSTALLING = """#!/bin/sh
 set -e
 if [ "$1" = configure ] && command -v py3compile >/dev/null 2>&1; then
@@ -40,7 +40,7 @@ DESCRIPTION = """back office of a life insurer, proved
 
 
 def libraries_of(program: str) -> str:
-    """The libraries that the program is linked with, at the versions that it needs."""
+    """Returns the libraries with which the program is linked, with the versions that it needs."""
     with open(program, "rb") as file:
         content = file.read()
     versions = sorted({(int(major), int(minor)) for major, minor in re.findall(rb"GLIBC_(\d+)\.(\d+)", content)})
@@ -58,7 +58,7 @@ def files_below(top: str) -> list[str]:
 
 
 def installed_size(top: str) -> int:
-    """In KiB, each file and folder rounded up."""
+    """Returns the size in KiB; each file and folder is rounded up."""
     whole = sum(1 for _ in os.walk(top))
     for name in files_below(top):
         path = os.path.join(top, name)
@@ -79,7 +79,7 @@ def md5_of(path: str) -> str:
 
 
 def run(words: list[str], seconds: int) -> bytes:
-    """A command that makes a file of the release: its output, or why it failed."""
+    """Runs a command that makes a file of the release, and returns its output; raises Wrong with its errors if it fails."""
     ended = subprocess.run(words, stdout=subprocess.PIPE, stderr=subprocess.PIPE, check=False,
                            env={**os.environ, "LC_ALL": "C", "SOURCE_DATE_EPOCH": str(seconds)})
     if ended.returncode:
@@ -88,7 +88,7 @@ def run(words: list[str], seconds: int) -> bytes:
 
 
 def make_package(release: Release, laid: str, room: str, out: str) -> None:
-    """The package of the files that are laid out below a folder."""
+    """Makes the package from the files in a folder."""
     top = f"{room}/package"
     shutil.copytree(laid, f"{top}/usr", symlinks=True)
     write(f"{top}/usr/share/lintian/overrides/{NAME}", OVERRIDES)
@@ -111,7 +111,7 @@ def make_tar(release: Release, room: str, name: str, out: str) -> None:
 
 
 def make_both(release: Release, folder: str, package: str, tar: str) -> None:
-    """Both files in a folder."""
+    """Makes both files in a folder."""
     name = f"{NAME}-{release.version}"
     with tempfile.TemporaryDirectory(prefix="life-pack-") as room:
         lay(release, f"{room}/{name}")

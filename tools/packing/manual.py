@@ -1,4 +1,4 @@
-"""The manual page of the tools, made from what each says with --help."""
+"""Makes the manual page of the tools from what each of them prints with --help."""
 from __future__ import annotations
 
 import argparse
@@ -30,7 +30,7 @@ TAIL = r""".SH EXIT STATUS
 
 
 def troff(text: str) -> str:
-    """Plain text as lines of a manual page."""
+    """Returns plain text as lines of a manual page."""
     lines = text.replace("\\", r"\e").replace("-", r"\-").splitlines()
     return "\n".join(rf"\&{line}" if line.startswith((".", "'")) else line for line in lines)
 
@@ -47,7 +47,7 @@ def entry_of(parser: argparse.ArgumentParser) -> list[str]:
 
 
 def manual_of_tools() -> str:
-    """The page of `life-tools`: each name with its words."""
+    """Returns the page of `life-tools`: each name with its arguments."""
     parser = parser_of(list(ENTRIES))
     names = next(action for action in parser._actions if isinstance(action, argparse._SubParsersAction))
     lines = [".SH NAMES"]

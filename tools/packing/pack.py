@@ -1,4 +1,4 @@
-"""Makes a release in a folder: the package, the tar file, and what was proved.
+"""Makes a release in a folder: the package, the tar file, and the text that says what was proved.
 
 usage: pack.py PROGRAM FOLDER REVISION KIT SECONDS MAINTAINER, as tools/launcher/pack.sh calls it; SECONDS is the
 revision's time, MAINTAINER its author
@@ -23,7 +23,7 @@ GATE = os.path.join(ROOT, "out", "gate")
 
 
 def gate_of(sources_sum: str) -> str:
-    """The last lines of the gate over these very sources, as .ci/run kept them."""
+    """Returns the last lines of the checks over exactly these sources, as .ci/run kept them."""
     begins = f"sources: {sources_sum}\n"
     if os.path.isfile(GATE):
         with open(GATE, encoding="utf-8") as file:

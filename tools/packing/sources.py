@@ -1,8 +1,8 @@
-"""The sum of all that is proved: each file of crates/, with crates.txt and HANDLES, but for what the kit makes in out/.
+"""Computes the checksum of all sources: each file of crates/ except what the kit makes in out/, crates.txt and HANDLES.
 
 usage: python3 tools/packing/sources.py [--list]
 
-It is the SHA-256 of the list of these files, a line each, in the order of their bytes: the file's own SHA-256, two
+It is the SHA-256 of a list with a line for each of these files, sorted by the bytes of their paths: the file's own SHA-256, two
 blanks, its path. `--list` prints that list, as `sha256sum` would.
 """
 from __future__ import annotations
@@ -29,7 +29,7 @@ def files_of_crates(root: str) -> list[str]:
 
 
 def list_of(root: str) -> str:
-    """The list of which the sum is."""
+    """Returns the list whose checksum is the sum."""
     names = sorted([*ALONE, *files_of_crates(root)], key=os.fsencode)
     return "".join(f"{sum_of(os.path.join(root, name))}  {name}\n" for name in names)
 

@@ -22,12 +22,12 @@ from packing.changelog import newest_of  # noqa: E402
 FIRST_LINE = b"#!/usr/bin/env python3\n"
 MAIN = "import sys\n\nfrom life_tools.cli.entry import main\n\nsys.exit(main())\n"
 BUILT = "life_tools/built.json"
-# each file has this time, so that the same tools make the same bytes
+# each file gets this time, so that the same tools make the same bytes
 TIME = (1980, 1, 1, 0, 0, 0)
 
 
 def files_of(package: str) -> list[str]:
-    """The package's files, named from the folder above it."""
+    """Returns the package's files, with names relative to the folder above it."""
     above = os.path.dirname(package)
     found = []
     for folder, below, names in os.walk(package):
@@ -37,12 +37,12 @@ def files_of(package: str) -> list[str]:
 
 
 def built_of(revision: str, kit: str, program_sum: str) -> dict[str, str]:
-    """What the tools know of the program that they belong to."""
+    """Returns what the tools know about the program that they belong to."""
     return {"version": newest_of(ROOT), "revision": revision, "kit": kit, "sum": program_sum}
 
 
 def contents_of(package: str, built: dict[str, str]) -> dict[str, bytes]:
-    """Each file of the tools, by its name, with what they were built with."""
+    """Returns each file of the tools by its name, including the one that says what they were built with."""
     package = os.path.abspath(package)
     contents = {}
     for name in files_of(package):
@@ -60,7 +60,7 @@ def pack(package: str, out: str, built: dict[str, str]) -> None:
 
 
 def completion_of(template: str) -> str:
-    """The completion of the words, with the names of all tools."""
+    """Returns the completion of the arguments, with the names of all tools."""
     with open(template, encoding="utf-8") as file:
         return file.read().replace("@ENTRIES@", " ".join(ENTRIES))
 

@@ -1,4 +1,4 @@
-"""The files of a release, as they lie below a folder: bin/ and share/, as in /usr or in the folder of a tar file."""
+"""Lays out the files of a release below a folder: bin/ and share/, as in /usr or in the folder of a tar file."""
 from __future__ import annotations
 
 import gzip
@@ -50,7 +50,7 @@ License: Expat
  OUT OF OR IN CONNECTION WITH THE SOFTWARE OR THE USE OR OTHER DEALINGS IN THE
  SOFTWARE.
 """
-# the tools, by whichever Python is on the path; each names a package that it misses
+# runs the tools with the Python that is first on the path; each tool names the packages that it misses
 TOOLS = """#!/bin/sh
 # The tools beside the program: `life-tools --help` names them.
 command -v python3 >/dev/null || {
@@ -60,14 +60,14 @@ command -v python3 >/dev/null || {
 here=$(dirname "$(readlink -f -- "$0")")
 exec python3 "$here/../share/life/life-tools.py" "$@"
 """
-# what begins the program: the parts of the launcher that it shares with the clone's, as tools/launcher/install.sh does
+# the parts of the launcher that start the program, which tools/launcher/install.sh uses as well
 PARTS = "tools/installed/parts"
 UNITS = ("life-backup@.service", "life-backup@.timer")
 
 
 @dataclass
 class Release:
-    """What is packed: the clone, its program, and how they are named."""
+    """What is packed: the clone, its program, and their names and checksums."""
 
     root: str
     program: str
@@ -106,7 +106,7 @@ def text_of(release: Release, *names: str) -> str:
 
 
 def write_site(release: Release, folder: str) -> None:
-    """The documentation, by Debian's MkDocs; its dates are those of the revision."""
+    """Builds the documentation with Debian's MkDocs; its dates are those of the revision."""
     command = ["/usr/bin/python3", os.path.join("tools", "site", "build.py"), os.path.abspath(folder)]
     built = subprocess.run(command, cwd=release.root,
                            env={**os.environ, "SOURCE_DATE_EPOCH": str(release.seconds)}, stdout=subprocess.PIPE,
@@ -116,7 +116,7 @@ def write_site(release: Release, folder: str) -> None:
 
 
 def proved_of(release: Release) -> str:
-    """What was proved, in the package: what one who has the kit needs for the same bytes."""
+    """Returns the text that says what was proved: what a reader with the kit needs to make the same bytes."""
     return f"""life {release.version}: what was proved
 
 revision: {release.revision}
@@ -132,7 +132,7 @@ and `sh life pack` in a clone of this revision make the same bytes.
 
 
 def lay_programs(release: Release, top: str) -> None:
-    """The program with those that begin it in one folder, as `life install` lays them, and its commands as links there."""
+    """Lays out the program and the scripts that start it in one folder, as `life install` does, with links to them in bin/."""
     with open(release.program, "rb") as file:
         write(f"{top}/libexec/life/life-program", file.read(), 0o755)
     shared = "".join(text_of(release, part) for part in text_of(release, PARTS).split())
@@ -144,7 +144,7 @@ def lay_programs(release: Release, top: str) -> None:
 
 
 def lay_tools(release: Release, top: str) -> None:
-    """The tools' package, and the file that runs it, which finds the program beside itself."""
+    """Lays out the tools' package and the script that runs it, which finds the program beside itself."""
     built = built_of(release.revision, release.kit, release.program_sum)
     for name, content in contents_of(os.path.join(release.root, "tools", "life_tools"), built).items():
         write(f"{top}/share/life/{name}", content)
@@ -163,7 +163,7 @@ def lay_manuals(release: Release, top: str) -> None:
 
 
 def lay_units(release: Release, top: str) -> None:
-    """Units of systemd for the owner of a book, who enables them for its folder."""
+    """Lays out systemd units, which the owner of a book enables for its folder."""
     for name in UNITS:
         write(f"{top}/lib/systemd/user/{name}", text_of(release, "tools", "installed", name))
 
@@ -181,7 +181,7 @@ def lay_documents(release: Release, top: str) -> None:
 
 
 def settle(top: str, seconds: int) -> None:
-    """Each file and folder with the modes and the time of a release, whatever this process would give them."""
+    """Gives each file and folder the modes and the time of a release, independently of this process's own settings."""
     for folder, _, names in os.walk(top):
         for name in names:
             os.utime(os.path.join(folder, name), (seconds, seconds), follow_symlinks=False)
@@ -193,7 +193,7 @@ def settle(top: str, seconds: int) -> None:
 
 
 def lay(release: Release, top: str) -> None:
-    """All files of a release below a folder that isn't there yet."""
+    """Lays out all files of a release below a folder; what was there before is removed."""
     shutil.rmtree(top, ignore_errors=True)
     os.makedirs(top)
     for part in (lay_programs, lay_tools, lay_manuals, lay_units, lay_documents):
