@@ -2,8 +2,8 @@
 
 usage: /usr/bin/python3 tools/site/build.py FOLDER      as `sh life doc` does, with out/site
 
-It fetches nothing. It needs Debian's mkdocs, mkdocs-material, libjs-katex and graphviz, and ends with 1 where a link of a
-page leads nowhere (`mkdocs build --strict`).
+It downloads nothing. It needs Debian's mkdocs, mkdocs-material, libjs-katex and graphviz, and ends with 1 if a link of a page
+leads nowhere (`mkdocs build --strict`).
 """
 from __future__ import annotations
 

@@ -1,11 +1,11 @@
-"""Pages in HTML of each public clause and the definitions under it, with their comments and the files' places.
+"""Makes HTML pages of each public clause and the definitions that it uses, with their comments and their places in files.
 
 usage: python3 tools/site/clause_pages.py FOLDER      `sh life doc` makes them in out/site/clauses
 
-A crate has a page: its public functions with their clauses, its worked cases, and its definitions by file, those under
-the clauses of the program (`life_app`, `life_cli`) and those under other clauses alone. Each word that a text cites leads
-to its definition; those of `specs/inside/` stand on pages of their own. A word that leads nowhere is the kit's, a type
-of the code, or bound where it stands.
+Each crate has a page with its public functions and their clauses, its worked cases, and its definitions by file. Definitions
+used by the clauses of the program (`life_app`, `life_cli`) come before those that only other clauses use. Each word in a text
+that names a definition is a link to it; the definitions of `specs/inside/` are on pages of their own. A word without a link
+belongs to the kit, is a type of the code, or is bound in the text itself.
 """
 from __future__ import annotations
 
@@ -45,7 +45,7 @@ ul.names { columns: 18rem; padding-left: 1.2rem; }
 
 
 class Pages:
-    """All pages, and where each definition stands."""
+    """All pages, and the place of each definition."""
 
     def __init__(self, public: Public) -> None:
         self.public = public
@@ -60,7 +60,7 @@ class Pages:
         return f'<a href="{self.page_of(key)}#{anchor(key)}">{html.escape(word)}</a>'
 
     def linked(self, text: str, imports: dict[str, str], place: str = "") -> str:
-        """A text in which each word that is a definition of ours leads to it."""
+        """Returns a text in which each word that names one of our definitions is a link to it."""
         parts, behind = [], 0
         for word in specs.WORD.finditer(text):
             key = imports.get(word[0], f"{place}.{word[0]}")
@@ -156,7 +156,7 @@ class Pages:
 
 
 def anchor(key: str) -> str:
-    """A definition's place in its page, of letters that an address keeps."""
+    """Returns the anchor of a definition in its page, made of characters that need no escape in an address."""
     return "".join(sign if sign.isalnum() and sign.isascii() or sign in "._" else f"-{ord(sign):x}"
                    for sign in key.partition(".specs.")[2])
 
@@ -166,12 +166,12 @@ def anchor_of(one: Function) -> str:
 
 
 def said(comment: str) -> str:
-    """A comment, with what stands in backticks as code."""
+    """Returns a comment as HTML, with the parts in backticks as code."""
     return re.sub("`([^`]+)`", r"<code>\1</code>", html.escape(comment))
 
 
 def head_of_crate(crate: str) -> str:
-    """The first words of a crate."""
+    """Returns the first sentences of a crate's description."""
     source = CRATES / crate / "src"
     root = source / "lib.rt" if (source / "lib.rt").exists() else source / "main.rt"
     head = root.read_text(encoding="utf-8").split("\n#!")[0].split("\n//!\n")[0].splitlines()
@@ -183,7 +183,7 @@ def file_of(place: str) -> Path:
 
 
 def head_of_file(place: str) -> str:
-    """The comment at the head of a file."""
+    """Returns the comment at the head of a file."""
     lines = []
     for line in file_of(place).read_text(encoding="utf-8").splitlines():
         if not line.startswith("--"):
@@ -193,7 +193,7 @@ def head_of_file(place: str) -> str:
 
 
 def place_of(one: specs.Definition) -> str:
-    """The file and the line at which a definition begins."""
+    """Returns the file and the line at which a definition begins."""
     return f"{'/'.join(one.place.split('.')[1:])}.antt:{one.line}"
 
 
@@ -207,7 +207,7 @@ def worked_cases(functions: list[Function]) -> Iterator[str]:
 
 
 def table(text: str) -> Iterator[str]:
-    """A table of a page as HTML."""
+    """Yields a table of a page as HTML."""
     rows = [line.strip("|").split("|") for line in text.splitlines()]
     yield "<table>"
     for number, row in enumerate(rows):
@@ -228,7 +228,7 @@ def write_page(path: Path, title: str, parts: Iterable[str]) -> None:
 
 
 def write_clauses(folder: Path) -> int:
-    """All pages into a folder that is made anew; returns the number of crates."""
+    """Writes all pages into a new folder in place of the old one, and returns the number of crates."""
     shutil.rmtree(folder, ignore_errors=True)
     folder.mkdir(parents=True)
     return Pages(all_public()).write(folder)

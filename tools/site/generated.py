@@ -1,9 +1,9 @@
-"""The marked blocks of pages that are made from the repository: help texts, the table of refusals, crates, counts.
+"""Writes the marked blocks of pages that are generated from the repository: help texts, the table of refusals, crates, counts.
 
-usage: python3 tools/site/generated.py            writes each block anew
-       python3 tools/site/generated.py --check    ends with 1 where a page has another text
+usage: python3 tools/site/generated.py            writes each block again
+       python3 tools/site/generated.py --check    ends with 1 if a page has another text
 
-A block stands between `<!-- generated: NAME WORDS -->` and `<!-- end -->`; NAME is a function below.
+A block is between `<!-- generated: NAME WORDS -->` and `<!-- end -->`; NAME is a function below.
 """
 from __future__ import annotations
 
@@ -21,7 +21,7 @@ BLOCK = re.compile(r"(<!-- generated: (\S+)(.*?) -->\n)(.*?)(<!-- end -->)", re.
 
 
 def printed(command: list[str]) -> str:
-    """What a command prints, as on a terminal of 80 columns."""
+    """Returns what a command prints, as on a terminal of 80 columns."""
     return subprocess.run(command, cwd=TOP, stdout=subprocess.PIPE, stderr=subprocess.DEVNULL, check=True,
                           env={**os.environ, "COLUMNS": "80", "LC_ALL": "C"}).stdout.decode()
 
@@ -35,7 +35,7 @@ def launcher() -> str:
 
 
 def help_of(*names: str) -> str:
-    """The help of `life-tools`, or of one of its names, as it is on a terminal of 80 columns."""
+    """Returns the help of `life-tools`, or of one of its names, as on a terminal of 80 columns."""
     from life_tools.cli.entry import parser_of
     os.environ["COLUMNS"] = "80"
     parser = parser_of(names)
@@ -46,13 +46,13 @@ def help_of(*names: str) -> str:
 
 
 def tools() -> str:
-    """Each tool with its help."""
+    """Returns each tool with its help."""
     from life_tools.cli.entry import ENTRIES
     return "\n".join(f"### {name}\n\n{help_of(name)}" for name in sorted(ENTRIES))
 
 
 def refusals() -> str:
-    """The table of reasons, as `life-tools explain` knows them."""
+    """Returns the table of reasons, the same that `life-tools explain` uses."""
     from life_tools.rules.remedies import REMEDIES
     rows = ["| Reason | Answer to | What it means | What to do |", "|---|---|---|---|"]
     for remedy in REMEDIES:
@@ -62,7 +62,7 @@ def refusals() -> str:
 
 
 def layers() -> str:
-    """The crates under the headings of crates.txt, each with the first sentence of its own description."""
+    """Returns the crates under the headings of crates.txt, each with the first sentences of its own description."""
     from clause_pages import head_of_crate  # type: ignore[import]
     parts = []
     for line in (TOP / "crates.txt").read_text(encoding="utf-8").splitlines():
@@ -76,14 +76,14 @@ def layers() -> str:
 
 
 def counts() -> str:
-    """How much is to be read for the main statements."""
+    """Returns how much is to be read for the main statements."""
     from tests.language import counts as counted
     from tests.language.promise import all_public
     return counted.table_of(all_public())
 
 
 def clauses() -> str:
-    """For each crate with public clauses: what it is about, its functions with contracts, and the clauses they carry."""
+    """Returns for each crate with public clauses what it is about, and how many contracts and named clauses it has."""
     from clause_pages import head_of_crate
     from tests.language.promise import all_public
     rows = ["| Crate | What it is about | Functions with a contract | Named clauses |", "|---|---|---|---|"]
@@ -95,7 +95,7 @@ def clauses() -> str:
     return "\n".join(rows) + "\n"
 
 
-# what is read and not proved: functions of a file (none: the whole file), what a reader looks at, what tries it
+# code that is read and not proved: the file, its functions (none means the whole file), what a reader checks, and what tests it
 READ: tuple[tuple[str, str, str, str], ...] = (
     ("life_cli/src/main.rt", "main words_of hold_descriptors", "the arguments are the system's; it ends as `leave` says, or "
      "prints `nomemory` if there are no arguments for want of memory; no file takes the place of a closed stream",
@@ -135,7 +135,7 @@ def code_lines(path: pathlib.Path) -> int:
 
 
 def lines_of(path: pathlib.Path, name: str) -> int:
-    """The lines of code of a file's functions of this name."""
+    """Returns the number of code lines of a file's functions of this name."""
     count, indent = 0, None
     for line in path.read_text(encoding="utf-8").splitlines():
         if indent is None and re.match(rf"\s*(?:pub(?:\(crate\))? )?fn {name}\b", line):
@@ -167,7 +167,7 @@ MAKERS: dict[str, Callable[..., str]] = {"launcher": launcher, "tools": tools, "
 
 
 def filled(text: str) -> str:
-    """A page's text with each block as it is due now."""
+    """Returns a page's text with each block as it should be now."""
     return BLOCK.sub(lambda found: found[1] + MAKERS[found[2]](*found[3].split()) + found[5], text)
 
 
