@@ -1,4 +1,4 @@
-# Completion of the words of life, life-wait and life-tools, for bash.
+# Completes the arguments of life, life-wait and life-tools in bash.
 
 _life_words() {
     local word=$1 at=$2
@@ -26,5 +26,5 @@ _life() {
     [ "$COMP_CWORD" -lt "$first" ] || _life_words "${COMP_WORDS[first]}" $((COMP_CWORD - first))
 }
 
-# where a word is of none of these, it may name a file
+# an argument that none of these complete may be the name of a file
 complete -o default -F _life life life-wait life-tools

@@ -1,6 +1,6 @@
 
-# The program beside this file with these arguments, in a folder that has a book, or where one is begun.
-# What it takes of the parts before it:
+# Runs the program beside this file with these arguments, in a folder that has a book or in which one is begun.
+# Variables that the parts before this one set:
 : "${program:?}" "${asked?}"
 [ -x "$program" ] || give_up "there is no program $program, so nothing was run: install life anew" 69
 if asks_help "$@"; then

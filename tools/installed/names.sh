@@ -1,4 +1,4 @@
-# Where the program lies, and how it, its waiting and its tools are called.
+# The place of the program, and the names by which the program, its waiting and its tools are called.
 # shellcheck disable=SC2034 # of the parts
 here=$(readlink -f -- "$0") || exit 70
 program=$(dirname "$here")/life-program

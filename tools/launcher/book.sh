@@ -1,9 +1,9 @@
-# What the program doesn't ask of the folder's book: whether there is one, and whether its file is whole. The clone's
+# Checks what the program does not check about the folder's book: whether there is one, and whether its file is whole. The clone's
 # launcher and the installed `life` share this part.
-# What it takes of the caller:
+# Variables that the caller sets:
 : "${called:?}"
 
-# whether the arguments post, and whether they open a book at all
+# posts: whether the arguments post; opens_book: whether they open a book at all
 posts() {
     case ${1-} in run | load) ;; *) return 1 ;; esac
 }
@@ -17,10 +17,10 @@ opens_book() {
     case ${1-} in run | load | state | checkpoint | value | project) ;; *) return 1 ;; esac
 }
 
-# Linux marks pages whose write to the disk failed as clean. So after a failed sync the system's copies of a file may hold
-# postings that the disk never received, a later sync succeeds without writing them, and the next run would believe them.
-# Before a book is opened, its files are synced and the system is asked to drop its copies of them: what is read then comes
-# from the disk. The program itself can't ask, since no library that it may use reaches the call.
+# Linux marks pages whose write to the disk failed as clean. After a failed sync the system's cache may therefore hold postings
+# that the disk never received; a later sync succeeds without writing them, and the next run would believe them. So before a book
+# is opened, its files are synced, and the system is asked to drop its cached pages of them: what is read then comes from the
+# disk. The program cannot do this itself, since no library that it may use has the system call.
 read_from_disk() {
     opens_book "$@" || return 0
     for file in journal.life checkpoint.life; do
@@ -30,8 +30,8 @@ read_from_disk() {
     done
 }
 
-# Status 66 where the arguments need a book that isn't there; a line where they begin one. A link to nothing is no folder
-# without a book: the program would begin one in its place.
+# Exits with 66 if the arguments need a book that is not there, and says so if they begin one. A link to nothing also ends with
+# 66: the program would otherwise begin a book in its place.
 demand_journal() {
     opens_book "$@" || return 0
     if [ -L journal.life ] && [ ! -e journal.life ]; then
@@ -47,8 +47,9 @@ demand_journal() {
     fi
 }
 
-# What `life-tools verify` prints of the book, with its reasons; nothing where that can't be said, as while another process
-# has the journal. Where the tools can't be run the length alone is compared, which takes a minute for the largest book.
+# Prints what `life-tools verify` prints about the book, with its reasons; prints nothing if that cannot be found out, such as
+# while another process uses the journal. If the tools cannot run, only the length is compared, which takes a minute for the
+# largest book.
 verify_book() {
     if command -v python3 >/dev/null; then
         found=$(run_tools verify 2>&1)
@@ -58,7 +59,7 @@ verify_book() {
                 return 0
                 ;;
             2)
-                # the program itself answers a journal that is in use or is none
+                # the program itself reports a journal that is in use or is not a journal
                 case $found in *" is in use by "* | *" is in use "* | *badjournal,*) ;; *) say "the book isn't verified: $found" ;; esac
                 return 1
                 ;;
@@ -74,9 +75,9 @@ verify_length() {
     printf 'count,%s\ndamaged\n%s bytes follow its last commit byte\n' "$count" $((length - 18 - 65 * count))
 } 2>/dev/null
 
-# A damaged commit byte ends the journal for the program, and the next posting overwrites what follows it; a checkpoint
-# that is made then takes the place of one that shows the loss. So what writes ends with 67, unless the caller accepts
-# that so many commands ($1) are left; all else is run, and warned of.
+# A damaged commit byte ends the journal for the program, and the next posting overwrites what follows it. A checkpoint made then
+# would replace one that shows the loss. Therefore a command that writes ends with 67, unless the caller accepts that exactly so
+# many commands ($1) are left; all other commands run, with a warning.
 demand_whole() {
     accepted=$1
     shift

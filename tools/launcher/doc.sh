@@ -1,10 +1,10 @@
-# The documentation as a site in out/site: the generated blocks of the pages are written anew, the pages of docs/ are built by
-# MkDocs, and the pages of all public clauses beside them.
-# What it takes of the launcher:
+# Makes the documentation as a site in out/site: writes the generated blocks of the pages again, and builds the pages of docs/
+# with MkDocs and the pages of all public clauses beside them.
+# Variables that the launcher sets:
 : "${root:?}"
 
 build_site() {
-    # Debian's Python has MkDocs; another one on the path may not
+    # Debian's Python has MkDocs; another Python on the path may not have it
     for python in /usr/bin/python3 python3; do
         ! "$python" -c "import mkdocs" 2>/dev/null || break
     done

@@ -1,5 +1,5 @@
-# What `sh life help` prints, of all commands or of one.
-# What it takes of the launcher:
+# Prints `sh life help`, for all commands or for one.
+# Variables that the launcher sets:
 : "${launcher:?}" "${program:?}"
 
 tell_all() {
@@ -23,7 +23,7 @@ launcher failed. 130: it was stopped.
 WORDS
 }
 
-# one of the launcher's own commands
+# prints the help of one of the launcher's own commands
 tell_own() {
     case $1 in
         try) does="Runs the program unproved, on copies of the folder's files and with a journal of its own." with=" state" ;;

@@ -1,6 +1,6 @@
-# What a status means here, beside what the program printed of the arguments. $called is how the program is called, $waits
-# how it is called to wait, $tools how the tools are.
-# What it takes of the caller:
+# Explains the program's status, in addition to what the program printed about the arguments. $called is the name of the program,
+# $waits that of the program that waits, and $tools that of the tools.
+# Variables that the caller sets:
 : "${called:?}" "${waits:?}" "${tools:?}"
 
 hint() {
@@ -22,14 +22,14 @@ hint_usage() {
     esac
 }
 
-# of the journal; of the checkpoint, where the arguments open that too; and else of the disk
+# prints why the journal could not be used, or the checkpoint if the arguments open it too, or else that the disk failed
 why_fault() {
     why=$(why_not journal.life)
     case "$*" in state | checkpoint) [ -n "$why" ] || why=$(why_not checkpoint.life) ;; esac
     printf '%s\n' "${why:-the disk failed (is it full? df .), or another run had journal.life, with what was accepted before}"
 }
 
-# why a file can't be had, where that shows
+# prints why a file cannot be used, if a reason is found
 why_not() {
     if [ -d "$1" ]; then
         printf '%s\n' "$1 is a folder"

@@ -1,8 +1,8 @@
-# The proved program for daily use, in a folder of programs: with what belongs to it, and without the clone.
-# What it takes of the launcher:
+# Installs the proved program for daily use in a folder of programs, with all that belongs to it and without the clone.
+# Variables that the launcher sets:
 : "${root:?}" "${launcher:?}" "${program:?}"
 
-# A folder, with those above it; which of them weren't there is kept, the innermost first.
+# Makes a folder and those above it; notes which of them are new, the innermost first.
 make_folder() {
     above=$1
     while [ ! -e "$above" ] && [ ! -L "$above" ]; do
@@ -13,13 +13,13 @@ make_folder() {
     made=$(mkdir -p -- "$1" 2>&1) || give_up "nothing was installed: ${made#mkdir: }"
 }
 
-# Removes what is staged, and the folders that were made and have nothing in them.
+# Removes the staged files, and the new folders that are empty.
 clean_up() {
     rm -rf "$staged" "$staged_share"
     printf %s "$new_folders" | sort -r | while IFS= read -r folder; do rmdir -- "$folder" 2>/dev/null; done
 }
 
-# Removes what an installation that was killed left in these folders, which are locked: its own files alone.
+# Removes what a killed installation left in these folders, which are locked; it removes only the installation's own files.
 remove_left() {
     for left in "$dir"/.life.?????? "$share"/.life.??????; do
         for each in life life-program life-wait life-tools life.1; do rm -f -- "$left/$each"; done
@@ -27,7 +27,7 @@ remove_left() {
     done
 }
 
-# where the files go, and what they are there
+# sets the folders in which the files are put, and makes these folders
 name_places() {
     dir=${1:-${HOME:+$HOME/.local/bin}}
     [ -n "$dir" ] || give_up "HOME isn't set, so name a folder: sh life install DIR"
@@ -44,7 +44,7 @@ name_places() {
     done
 }
 
-# each file in a folder beside its place, whole and on the disk, so that a rename is all that is left
+# makes each file complete and synced in a folder beside its final place, so that only a rename is left to do
 make_files() {
     cp "$program" "$staged/life-program" &&
         { echo '#!/bin/sh' && (cd "$root" && xargs cat <tools/installed/parts); } >"$staged/life" &&
@@ -58,7 +58,7 @@ make_files() {
         [ "$(sum_of "$staged/life-program")" = "$sum" ]
 }
 
-# the program before those that begin it, so that none of the new is found without it
+# moves the program before the scripts that start it, so that no new script is found without it
 put_in_place() {
     mv -fT "$staged_share/life.1" "$manuals/life.1" &&
         mv -fT "$staged_share/life" "$completions/life" &&

@@ -1,8 +1,8 @@
-# A release of the proved program in out/release: a package for Debian, a tar file, and what was proved.
-# What it takes of the launcher:
+# Makes a release of the proved program in out/release: a package for Debian, a tar file, and what was proved.
+# Variables that the launcher sets:
 : "${root:?}" "${program:?}"
 
-# What is packed and isn't committed, since a release is of a revision.
+# Prints files that would be packed and are not committed, since a release belongs to a revision.
 uncommitted() {
     git -C "$root" status --porcelain -- life crates crates.txt HANDLES tools docs examples ':(glob)*.md' 2>&1 | head -n 5
 }

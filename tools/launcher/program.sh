@@ -1,15 +1,15 @@
-# The program in the folder that it is called from; on a terminal it is watched, and its status is explained. The clone's
+# Runs the program in the present folder; on a terminal the run's progress is shown and its status is explained. The clone's
 # launcher and the installed `life` share this part.
-# What it takes of the caller:
+# Variables that the caller sets:
 : "${program:?}" "${called:?}"
 
-# how many postings the journal's length has room for
+# prints for how many postings the journal's file is long enough
 postings_now() {
     length=$(stat -c %s journal.life 2>/dev/null) || length=0
     echo $((length < 18 ? 0 : (length - 18) / 65))
 }
 
-# how far a run is, as its journal grows, until the launcher has ended
+# shows how far a run is, by the growth of its journal, until the launcher has ended
 show_growth() {
     last=$before
     while sleep 1 && kill -0 $$ 2>/dev/null; do
@@ -24,7 +24,7 @@ clear_growth() {
     printf '\r\033[K' >&2
 }
 
-# passes on what the program prints; with its first line what told how far it is goes away
+# passes on what the program prints; the progress line disappears with the first byte
 after_growth() {
     first=$(dd bs=1 count=1 2>/dev/null && echo .)
     clear_growth
@@ -32,7 +32,7 @@ after_growth() {
     exec cat
 }
 
-# The program with how far it is. Its text goes through a pipe where that and the text are for one terminal.
+# Runs the program and shows its progress. The output goes through a pipe if it and the progress are for the same terminal.
 run_and_watch() {
     before=$(postings_now)
     show_growth &
@@ -50,7 +50,7 @@ run_and_watch() {
     status=${status:-130}
 }
 
-# Status 2 and nothing run where --accept-damage is said otherwise.
+# Sets $accepted, or exits with 2 before anything runs if the argument of --accept-damage is not a number.
 accepts_number() {
     case $1 in
         '' | *[!0-9]* | ????????*)
@@ -62,7 +62,7 @@ accepts_number() {
     accepted=$1
 }
 
-# On a terminal the launcher stays, for a hint; else the program takes its place, and is what a signal meets.
+# On a terminal the launcher stays, to explain the status; otherwise the program replaces it, and receives signals itself.
 run_program() {
     first=${1-} accepted='' left=$#
     while writes_book "$first" && [ "$left" -gt 0 ]; do
@@ -81,7 +81,7 @@ run_program() {
     demand_journal "$@"
     read_from_disk "$@"
     demand_whole "$accepted" "$@"
-    # a write past a limit on the size of files then fails like any other, and doesn't end the program
+    # a write past a limit on the size of files then fails like any other write, and does not end the program
     trap '' XFSZ
     [ -t 2 ] || exec "$program" "$@"
     [ "${1-}" != run ] || [ ! -t 0 ] || say "the script is read from the terminal until Ctrl-D; a file is $called run < SCRIPT"

@@ -1,13 +1,13 @@
-# The proof of the program's crates, and its build.
-# What it takes of the launcher:
+# Proves the program's crates, and builds the program.
+# Variables that the launcher sets:
 : "${root:?}" "${program:?}" "${worker?}"
 
-# the crates that the kit is done with, so far
+# prints the crates that the kit has checked so far
 checked_crates() {
     sed -n 's/^== \([a-z][a-z_]*\)$/\1/p' "$log" | grep -v '^summary$'
 }
 
-# tells which crates are checked, until the process that checks them has ended
+# shows which crates are checked, until the process that checks them has ended
 show_progress() {
     last=
     while kill -0 "$1" 2>/dev/null; do
@@ -20,7 +20,7 @@ show_progress() {
     done
 }
 
-# a command of the kit in the program's crate; what is proved by then is kept, so the next one goes on from there
+# runs a command of the kit in the program's crate; what is proved by then is kept, so that the next command continues from there
 in_program() {
     ends_by_signal 'rm -f "$log"' "what is proved is kept, and sh life prove goes on from there"
     in_a_session "$root/crates/life_cli" "$@"
@@ -54,8 +54,8 @@ prove() {
     exit 0
 }
 
-# The build of what is proved, and a run without arguments, which touches nothing. The program is noted as proved with the
-# sum that its sources had before the proof began: of sources that were changed meanwhile nothing is noted.
+# Builds what is proved, and runs it without arguments, which changes nothing. The program is noted as proved with the sum that
+# its sources had before the proof began; if sources changed meanwhile, nothing is noted.
 build_proved() {
     tell "building the program, after $(time_since "$started")"
     : >"$log"

@@ -1,15 +1,15 @@
-# A sandbox: a folder of its own in which the launcher runs the preview on the folder's own files, to learn and to try.
-# The file `life.sandbox` marks it. Everywhere else only a proved program writes journal.life.
-# What it takes of the launcher:
+# Makes a sandbox: a folder in which the launcher runs the preview on the folder's own files, to learn and to try. The file
+# `life.sandbox` marks it. Everywhere else only a proved program writes journal.life.
+# Variables that the launcher sets:
 : "${root:?}" "${launcher:?}" "${preview:?}"
 . "$launcher/preview.sh"
 
-# a command of the sandbox's bin/, which hands its arguments on to this launcher
+# writes a command of the sandbox's bin/, which passes its arguments on to this launcher
 put_command() {
     printf '#!/bin/sh\nexec sh "%s/life" %s"$@"\n' "$root" "$2" >"$1" && chmod 755 "$1"
 }
 
-# A new folder with the mark, the examples, so that each command of the tutorial finds its files, and the commands.
+# Makes a folder with the mark, the commands, and the examples, so that each command of the tutorial finds its files.
 make_sandbox() {
     [ $# -eq 1 ] || usage "it is sh life sandbox DIR: a folder that is to be made"
     case $1 in -*) usage "it is sh life sandbox DIR, and a DIR that begins with - is ./$1" ;; esac
@@ -25,7 +25,7 @@ make_sandbox() {
     exit 0
 }
 
-# From here on the preview stands in for the proved program.
+# From here on the preview is used in place of the proved program.
 take_preview() {
     is_newest "$preview" || build_preview
     # shellcheck disable=SC2034 # of the caller

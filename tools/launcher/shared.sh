@@ -1,14 +1,14 @@
-# What the launcher's parts share: what is said on standard error, whether a program is current, and the kit's commands.
-# What it takes of the launcher; and for its parts, what in_a_session began, and where that writes:
+# What the launcher's parts share: messages on standard error, whether a program is current, and the kit's commands.
+# The launcher sets $root; in_a_session sets $worker, the process that it began, and writes to $log:
 : "${root:?}"
 . "$root/tools/launcher/messages.sh"
 worker='' log=''
 
-# Says so where another launcher has a lock, and waits for it.
+# Waits for a lock, and says so if another launcher has it.
 take_turn() {
     flock -n "$1" && return
     say "$2; this one waits for it"
-    # a signal is heard at once by a shell that waits for what runs in the background
+    # a shell that waits for a process in the background handles a signal at once
     flock "$1" &
     wait "$!"
 }
@@ -18,7 +18,7 @@ time_since() {
     echo "$((spent / 60)) min $((spent % 60)) s"
 }
 
-# the program's crates: itself, and each of ours below it
+# prints the program's crates: the program itself, and each of our crates below it
 crates_below() {
     awk -F: '/^[a-z]/ { split($1, head, " "); ours[head[1]] = $2 }
         function visit(name, n, parts, i) {
@@ -30,8 +30,8 @@ crates_below() {
         END { visit("life_cli") }' "$root/crates.txt"
 }
 
-# The sum of what is proved of the program: the SHA-256 of the list that sha256sum prints of crates.txt and of each source,
-# contract and proof of its crates.
+# Prints the checksum of what is proved of the program: the SHA-256 of the list that sha256sum prints for crates.txt and for each
+# source, contract and proof of its crates.
 sources_sum() {
     # shellcheck disable=SC2046 # a crate's name has no blank
     (cd "$root" && { echo crates.txt && find $(crates_below | sed 's,^,crates/,') \( -name out -o -name must-fail \) -prune \
@@ -39,13 +39,13 @@ sources_sum() {
         xargs -0 sha256sum | sum_of /dev/stdin)
 }
 
-# What was noted when the program was proved and built: `program`, `sources` (their sums), `kit` (with its logic) or
+# Prints what was noted when the program was proved and built: `program`, `sources` (their checksums), `kit` (with its logic) or
 # `revision`.
 noted() {
     sed -n "s/^$1: //p" "$root/out/proved" 2>/dev/null
 }
 
-# Notes that a program is the proved one of these sources, whose sum was taken before they were proved.
+# Notes that a program is the proved one of these sources, unless their checksum has changed since before the proof.
 note_proof() {
     [ "$(sources_sum)" = "$2" ] && mkdir -p "$root/out" &&
         printf 'program: %s\nsources: %s\nkit: %s\nrevision: %s\n' "$(sum_of "$1")" "$2" "$(kit)" "$(revision)" \
@@ -53,14 +53,14 @@ note_proof() {
         mv -f "$root/out/proved.new" "$root/out/proved"
 }
 
-# whether a program is the one that was proved, and its sources are those from which it was
+# whether a program is the one that was proved, and its sources are still those from which it was proved
 is_current() {
     [ -x "$1" ] && [ -n "$(noted program)" ] && [ "$(sum_of "$1")" = "$(noted program)" ] &&
         [ "$(sources_sum)" = "$(noted sources)" ]
 }
 
-# Whether a preview, which writes no book, is newer than each source, contract and proof of its crates, and than the
-# folders they lie in.
+# Whether a preview, which writes no book, is newer than each source, contract and proof of its crates, and than the folders that
+# contain them.
 is_newest() {
     built=$1
     [ -x "$built" ] && [ ! "$root/crates.txt" -nt "$built" ] || return 1
@@ -76,27 +76,27 @@ need_kit() {
     command -v rt >/dev/null || give_up "the kit's command rt isn't on the path"
 }
 
-# as many jobs side by side as there are processors, and free memory of so many MB for each
+# prints how many jobs may run side by side: at most one for each processor, and one for so many MB of free memory
 jobs_at_once() {
     processors=$(nproc 2>/dev/null) || processors=1
     awk -v most="$processors" -v each="$1" '/^MemAvailable:/ { n = int($2 / 1000 / each) }
         END { print n < 1 ? 1 : n < most ? n : most }' /proc/meminfo
 }
 
-# A command in a folder and in a session of its own, so that it ends with the launcher; what it prints goes to the log.
+# Runs a command in a folder and in a session of its own, so that it ends with the launcher; its output goes to the log.
 in_a_session() {
     (cd "$1" && shift && exec setsid "$@" </dev/null >>"$log" 2>&1) &
     # shellcheck disable=SC2034 # of those that call it
     worker=$!
 }
 
-# the processes of a session that haven't ended
+# prints the processes of a session that have not ended
 session() {
     cat /proc/[0-9]*/stat 2>/dev/null | sed -n "s/^\([0-9]*\) .*) [^Z] [0-9]* [0-9]* $1 .*/\1/p"
 }
 
-# Ends what was last begun in the background, with its group where it leads one, and waits until nothing of its session
-# is left; what is left after ten seconds is killed.
+# Ends the last process begun in the background, with its group if it leads one, and waits until nothing of its session is left;
+# what is left after ten seconds is killed.
 end_worker() {
     [ -n "$!" ] || return 0
     kill -- -"$!" 2>/dev/null || kill "$!" 2>/dev/null
@@ -109,7 +109,7 @@ end_worker() {
     done
 }
 
-# What a signal does from here on: what runs in the background ends, and so does the launcher, which says what is left.
+# Sets what a signal does from here on: the process in the background ends, and the launcher says what is left and ends.
 ends_by_signal() {
     trap 'trap "" INT TERM HUP; end_worker; '"$1"'
         tell_no_more
@@ -117,7 +117,7 @@ ends_by_signal() {
         exit 130' INT TERM HUP
 }
 
-# the revision of what is installed or packed, the kit that proves, and a file's SHA-256
+# prints the revision of what is installed or packed; the kit that proves; the SHA-256 of a file
 revision() {
     found=$(git -C "$root" rev-parse HEAD 2>/dev/null) || { echo "unknown: there is no repository"; return; }
     changes=$(git -C "$root" status --porcelain -- life crates crates.txt tools 2>/dev/null)

@@ -1,22 +1,22 @@
-# All tests without any proof: each crate of tests as the kit tries it, and the suite over a preview. With a test's path or an
-# option, that part of the suite alone, as pytest takes them.
-# What it takes of the launcher:
+# Runs all tests without any proof: each crate of tests, as the kit tries it, and the suite over a preview. With the path of a
+# test or an option, it runs that part of the suite alone, as pytest takes them.
+# Variables that the launcher sets:
 : "${root:?}" "${launcher:?}" "${program:?}" "${preview:?}"
 
-# the crates of tests, the largest first
+# prints the crates of tests, the largest first
 test_crates() {
     for crate in $(sed -n 's/^\([a-z_]*_tests\):.*/\1/p' "$root/crates.txt"); do
         echo "$(cat "$root/crates/$crate"/src/*.rt | wc -c) $crate"
     done | sort -rn | cut -d ' ' -f 2
 }
 
-# The jobs of a list, so many at once; each prints a line as it ends, and adds its counts to the folder of results.
+# Runs the jobs of a list, so many at once; each prints a line when it ends, and adds its counts to the folder of results.
 do_jobs() {
     setsid xargs -r -d '\n' -a "$1" -n 1 -P "$2" sh "$launcher/test_job.sh" "$root" "$results" </dev/null &
     wait "$!"
 }
 
-# Debian's Python with these arguments, over a program and in a session of its own; its status is in `tested`.
+# Runs Debian's Python with these arguments, for a given program and in a session of its own, and sets `tested` to the status.
 run_python() {
     judged=$1
     shift
@@ -28,7 +28,7 @@ run_python() {
     tested=$?
 }
 
-# a part of the suite, from the clone's folder, over the proved program where it is current and else over a preview
+# runs a part of the suite from the clone's folder, with the proved program if it is current, and otherwise with a preview
 run_part() {
     judged=$program
     if ! is_current "$program"; then
@@ -41,7 +41,7 @@ run_part() {
     exit "$tested"
 }
 
-# The whole suite; one that ends without its counts is a failure.
+# Runs the whole suite; if it ends without its counts, it counts as a failure.
 run_suite() {
     echo 0 1 0 >"$results/suite"
     run_python "$judged" "$root/.ci/suite.py" "$at_once" "$results/suite" "$@"
@@ -62,7 +62,7 @@ run_tests() {
     ends_by_signal 'rm -rf "$results"' "the tests weren't run to their end"
     started=$(date +%s)
     : >"$results/counts"
-    # a crate of tests takes up to a gigabyte and a half
+    # a crate of tests takes up to 1.5 gigabytes of memory
     at_once=$(jobs_at_once 1500)
     { echo preview; test_crates; } >"$results/jobs"
     say "$(test_crates | wc -l) crates of tests, $at_once side by side, then the suite"

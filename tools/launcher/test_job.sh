@@ -1,5 +1,5 @@
-# One job of `sh life test`: test_job.sh ROOT RESULTS JOB, where JOB is `preview`, which builds that, or a crate of tests. It
-# prints a line, and more where something failed, and adds its counts of what passed and failed to RESULTS/counts.
+# Runs one job of `sh life test`: test_job.sh ROOT RESULTS JOB, where JOB is a crate of tests, or `preview`, which builds the
+# preview. It prints a line, and more if something failed, and adds its counts of passed and failed tests to RESULTS/counts.
 root=$1 results=$2 job=$3
 launcher=$root/tools/launcher
 previews=$root/out/preview
@@ -9,7 +9,7 @@ preview=$previews/life_preview
 said=$results/$job.said
 started=$(date +%s)
 
-# passed, failed, and what is shown of a failure
+# reports a job: how many tests passed, how many failed, and the file with what is shown of a failure
 report() {
     echo "$1 $2" >>"$results/counts"
     if [ "$2" = 0 ]; then
@@ -23,7 +23,7 @@ report() {
     fi
 }
 
-# A command in a folder, for so long at the most, which ends where this job is ended; what it prints is kept.
+# Runs a command in a folder with a limit on its time; it ends if this job is ended. Its output is kept.
 do_bounded() {
     (cd "$1" && shift && exec timeout 1800 "$@") </dev/null >"$said" 2>&1 &
     trap 'kill "$!"; wait "$!"; exit 143' TERM
@@ -33,7 +33,7 @@ do_bounded() {
 } 2>/dev/null
 
 try_crate() {
-    # a test has so long by the clock, whatever else the machine does; the longest take a minute with nothing beside
+    # time limit of a test by the clock, whatever else the machine does; the longest tests take a minute on a quiet machine
     do_bounded "$root/crates/$job" rt try --test --seconds 600
     grep -v '^test .* ok$' "$said" >"$said.rest"
     counts=$(sed -n 's/^test result: [A-Za-z]*\. \([0-9]*\) passed; \([0-9]*\) failed;.*/\1 \2/p' "$said")
@@ -48,5 +48,5 @@ case $job in
     preview) is_newest "$preview" || build_preview ;;
     *) try_crate ;;
 esac
-# a job that failed has said so, and the others go on
+# a failed job has reported its failure, and the other jobs go on
 exit 0

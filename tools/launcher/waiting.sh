@@ -1,23 +1,23 @@
-# Waiting for a book that somebody has: `sh life --wait`, and `life-wait` where the program is installed.
+# Waits for a book that is in use: `sh life --wait`, or `life-wait` if the program is installed.
 
 is_seconds() {
     case $1 in '' | *[!0-9]* | ???????*) return 1 ;; esac
 }
 
-# the process that has a file locked, and its name, where that shows
+# prints the process that has locked a file, and its name, if the system shows them
 holder_of() {
     inode=$(stat -c %i "$1" 2>/dev/null) || return
     pid=$(awk -v inode=":$inode\$" '/ FLOCK / && $2 != "->" && $6 ~ inode { print $5; exit }' /proc/locks 2>/dev/null)
     [ -z "$pid" ] || printf '%s\n' "process $pid, $(cat "/proc/$pid/comm" 2>/dev/null)"
 }
 
-# Whether somebody has the file: a lock that others may share is tried for it, and given up at once.
+# Whether a file is in use: a shared lock is tried on it, and released at once.
 is_held() {
     [ -f "$1" ] && [ -r "$1" ] || return 1
     ! { flock -n -s 7; } 7<"$1"
 } 2>/dev/null
 
-# the files that these words need
+# prints the files that a command needs
 needed_files() {
     case $1 in
         run | load | value | project) echo journal.life ;;
@@ -25,8 +25,9 @@ needed_files() {
     esac
 }
 
-# Why these words can't have the book yet: the one that has it, or one that waited longer. A lock that is tried is one for
-# a moment, and would keep off the program of another; so only the one whose turn it is tries.
+# Prints why the command cannot use the book yet: the process that uses it, or that another waiting process has its turn. A lock
+# that is tried is held for a moment, and would keep the program of another process out; so only the process whose turn it is
+# tries.
 why_wait() {
     flock -n 9 2>/dev/null
     queue=$?
@@ -39,9 +40,9 @@ why_wait() {
     [ "$queue" != 1 ] || echo "another one that waited for this folder has its turn"
 }
 
-# Waits so many seconds at most until nobody has what the words need. Those that wait take turns by a lock on the
-# folder, which the program keeps to its end; so of several none takes the book from another that was about to begin. At
-# the end of the time the program is started all the same, and answers as it does.
+# Waits at most so many seconds until no process uses what the command needs. Those that wait take turns by a lock on the folder,
+# which the program keeps until it ends; so no process takes the book from another that was about to begin. When the time is over,
+# the program is started all the same, and reports what it finds.
 wait_for_books() {
     seconds=$1
     until=$(($(date +%s) + seconds))

@@ -1,6 +1,5 @@
-# The help of the program's commands: all of them, and each by itself. The clone's launcher and the installed `life` share
-# this part.
-# What it takes of the caller; asks_help leaves it the command that is asked of:
+# Prints the help of the program's commands, all of them or one. The clone's launcher and the installed `life` share this part.
+# Variables that the caller sets; asks_help sets $asked to the command whose help is asked for:
 : "${called:?}" "${waits:?}"
 asked=
 
@@ -28,7 +27,7 @@ tell_words() {
     echo
 }
 
-# One command of the program: what it takes, does and prints, with an example.
+# Prints the help of one command of the program: its arguments, what it does and prints, and an example.
 tell_word() {
     case $1 in
         run) cat <<WORDS
