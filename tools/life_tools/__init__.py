@@ -1,1 +1,1 @@
-"""The work around `life`: what its files and its printed lines say, in whole cents, for the people who use them."""
+"""The tools for the work around `life`: they read its files and its printed lines, and compute in whole cents."""

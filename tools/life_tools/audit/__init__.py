@@ -1,1 +1,1 @@
-"""The audit: flags, samples, papers and letters of confirmation."""
+"""Tools of the audit: flags, samples, papers and letters of confirmation."""

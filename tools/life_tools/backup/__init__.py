@@ -1,1 +1,1 @@
-"""A second copy of a book, to which only what was added is copied, and a book made of it."""
+"""Keeps a second copy of a book, to which only additions are copied, and makes a book from such a copy."""

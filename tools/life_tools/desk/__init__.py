@@ -1,1 +1,1 @@
-"""The daily desk: clerks' files are claimed, looked over, posted, and kept with what came of each row."""
+"""The daily desk: claims clerks' files, checks and posts them, and records the result of each row."""

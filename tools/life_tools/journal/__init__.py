@@ -1,1 +1,1 @@
-"""The journal and the checkpoint: records, columns, policies at a position, wholeness, seals, private copies."""
+"""Reads the journal and the checkpoint: records, columns, policies at a position, wholeness, seals, private copies."""

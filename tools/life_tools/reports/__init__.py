@@ -1,1 +1,1 @@
-"""Reports, movements and statements: their figures, and the sheets, files and pages that show them."""
+"""Makes reports, movements and statements: their figures, and the sheets, files and pages that show them."""

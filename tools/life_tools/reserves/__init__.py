@@ -1,1 +1,1 @@
-"""Reserves and projections, worked out exactly from the public standards, and what was printed compared with them."""
+"""Computes reserves and projections exactly from the public standards, and compares printed ones with them."""

@@ -1,1 +1,1 @@
-"""Scripts: parsing, warnings, dry runs, what a killed run left, imports, transcripts and refusals explained."""
+"""Works on scripts: parsing, warnings, dry runs, the rest of an interrupted run, imports, transcripts, explained refusals."""

@@ -1,1 +1,1 @@
-"""The basis and its mortality tables: reading, looking over, converting and rounding them."""
+"""Works on the basis and its mortality tables: reading, checking, converting and rounding them."""

@@ -1,1 +1,1 @@
-"""The window on a book: a view of it in a web browser, which only looks; `life-tools browse` opens it."""
+"""The window on a book: pages in a web browser, which post nothing; `life-tools browse` opens it."""
