@@ -117,8 +117,8 @@ READ: tuple[tuple[str, str, str, str], ...] = (
     ("lane_runner/src/merging.rt", "wait_for_next", "the writer wakes for the line that it waits for; otherwise the run does not "
      "return", "all orders of the steps"),
     ("lane_runner/src/bell.rt", "", "the same", "all orders of the steps"),
-    ("turn_lock/src/entering.rt", "", "a caller that waits for the lock looks before it sleeps; otherwise the run does not return",
-     "all orders of the steps"),
+    ("turn_lock/src/entering.rt", "", "a caller that waits for the lock looks before it sleeps; otherwise the run does not "
+     "return", "all orders of the steps"),
     ("turn_lock/src/queues.rt", "", "who waits for the lock is woken", "all orders of the steps"),
     ("moment_ring/src/inlet.rt", "next", "the moment of an accepted line comes", "early lines"),
     ("stating_modes/src/reopened.rt", "reopen_both", "the journal is made safe before the second file is touched",
