@@ -33,6 +33,11 @@ OF_A_DISK = set("""
     posting_journal.specs.Runs.LooksOn office_state.specs.Images.IsLeftBy office_state.specs.Images.IsLeftAlone
     office_state.specs.Images.HoldsSince office_state.specs.Images.HasKept office_state.specs.Images.KeepsAccepted""".split())
 
+# The premises that a case builds by one clause of a definition that has several; this module does not read clauses.
+BUILT_BY_A_CLAUSE = {
+    "present_value.specs.Reserve.Encloses": "the printed row of WorkedRun.Enclosed has bounds: the first clause of `IsWorthBy`",
+}
+
 # The definitions that are never held by a worked case, by the reason.
 EXCEPTIONS = {
     "How a trial load ends: no worked run is one. It puts together what is held apart, and says no value of its own.":
@@ -330,7 +335,9 @@ class Found:
         self.bare = self.promise - held_by(texts, self.cases, built)
         self.wrong = [f"no worked case rests on {key}" for key in sorted(self.bare - EXCEPTED)]
         self.wrong += [f"{key} is held, or gone, and needs no exception" for key in sorted(EXCEPTED - self.bare)]
-        self.wrong += [f"no worked case builds the premise {key}" for key in sorted(self.premises - built)]
+        unbuilt = self.premises - built
+        self.wrong += [f"no worked case builds the premise {key}" for key in sorted(unbuilt - BUILT_BY_A_CLAUSE.keys())]
+        self.wrong += [f"{key} is built, or no premise, and needs no reason" for key in sorted(BUILT_BY_A_CLAUSE.keys() - unbuilt)]
         told, self.conditional = told_conditional(shown, others)
         self.wrong += told + told_data(texts) + told_empty(texts, self.promise | self.cases)
         if len(EXCEPTED) >= 20:

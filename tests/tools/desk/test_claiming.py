@@ -2,6 +2,7 @@
 reported."""
 from __future__ import annotations
 
+import errno
 import os
 import shutil
 import subprocess
@@ -13,7 +14,7 @@ from typing import Iterator
 import pytest
 
 from life_tools.desk import claiming
-from life_tools.desk.entries import Log
+from life_tools.desk.entries import Entry, Log
 from life_tools.desk.records import at_moment
 from tests.support.desks import Desk
 from tests.support.folders import Folder
@@ -220,6 +221,23 @@ def test_a_claim_whose_inbox_is_away_waits_for_it(desk: Desk, memory: Path, monk
         assert ".a.csv.claimed-000002-" in desk.day(status=1).err and len(desk.log()) == 1
     memory.rmdir()
     memory.with_name("away").rename(memory)
+    desk.day(status=1)
+    assert posted(desk) == ["1", "2"] and os.listdir(memory) == []
+
+
+def test_a_copied_file_leaves_its_inbox_after_an_interruption(desk: Desk, memory: Path, monkeypatch: pytest.MonkeyPatch) -> None:
+    """The copy is whole, and the hidden file is still there. Once it stayed in the inbox for ever."""
+    copied = claiming.copy_safely
+
+    def cut(source: str, entry: Entry) -> None:
+        copied(source, entry)
+        raise OSError(errno.EIO, "interrupted", source)
+
+    with monkeypatch.context() as patched:
+        patched.setattr(claiming, "copy_safely", cut)
+        desk.hand_in("a.csv", ISSUE.format(2))
+        assert "could not be read" in desk.day(status=1).err
+    assert len(os.listdir(memory)) == 1
     desk.day(status=1)
     assert posted(desk) == ["1", "2"] and os.listdir(memory) == []
 

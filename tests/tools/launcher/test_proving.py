@@ -177,6 +177,9 @@ def test_by_the_clock():
 
 def test_beside_others():
     fails_at_first("others")
+
+def test_that_is_broken():
+    assert False
 """
 
 
@@ -208,12 +211,13 @@ def test_ci_shows_what_the_gate_refuses_and_runs_no_test(suite: Path) -> None:
 
 
 @pytest.mark.needs("python:xdist")
-def test_only_what_goes_by_the_clock_is_run_again(suite: Path) -> None:
+def test_what_failed_is_run_once_more_and_named(suite: Path) -> None:
     (suite / "tests" / "test_weather.py").write_text(FLAKY)
     done = ci(suite, "tests")
-    assert done.status == 1 and done.out.splitlines()[-1] == "4 passed, 1 failed", done
-    assert "run again by itself, since it failed: tests.test_weather::test_by_the_clock passed\n" in done.out
-    assert "failed: tests.test_weather::test_beside_others\n" in done.out
+    assert done.status == 1 and done.out.splitlines()[-1] == "5 passed, 1 failed", done
+    for name, how in (("by_the_clock", "passed"), ("beside_others", "passed"), ("that_is_broken", "failed")):
+        assert f"run again by itself, since it failed: tests.test_weather::test_{name} {how}\n" in done.out
+    assert "failed: tests.test_weather::test_that_is_broken\n" in done.out
 
 
 @pytest.mark.needs("python:xdist")

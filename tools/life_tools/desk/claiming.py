@@ -280,16 +280,16 @@ def finish_claim(entry: Entry) -> bool:
     """
     if entry.record["state"] != CLAIMING:
         return True
-    if not has_file(entry):
-        hidden = entry.record["file"].get("hidden")
-        if hidden and os.path.lexists(hidden):
-            move_from_hidden(entry)
-        elif hidden and not os.path.lexists(entry.record["file"]["path"]):
+    hidden = entry.record["file"].get("hidden")
+    if hidden and os.path.lexists(hidden):
+        # it is copied again even if there is a whole copy: nothing was read of that yet, and the hidden file goes away
+        move_from_hidden(entry)
+    elif not has_file(entry):
+        if hidden and not os.path.lexists(entry.record["file"]["path"]):
             raise Left(f"was being copied to {entry.shown} from {shown(hidden)}, which isn't there: mount its disk, and call "
                        f"this again; if the file was taken away, remove {entry.shown}")
-        else:
-            undo(entry)
-            return False
+        undo(entry)
+        return False
     open_entry(entry)
     return True
 
