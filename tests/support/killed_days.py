@@ -227,8 +227,8 @@ class Trial:
                     and path.name not in ("runs", ".lock")]
 
     def judge_postings(self, entries: list[dict[str, Any]]) -> None:
-        """Asserts that the journal is what the entries say, that no posting is doubled, and that no issue that was handed in
-        is missing."""
+        """Asserts that the journal is what the entries say, that no posting is doubled, and that each issue that was handed in
+        is posted, or is held for a person: an original is held, too, if its copy was looked at first and is held."""
         records = self.desk.records()
         logged = self.desk.log()
         assert [int(row["position"]) for row in logged] == list(range(1, len(records) + 1))
@@ -240,7 +240,10 @@ class Trial:
         assert positions == Counter(range(1, len(records) + 1))
         issues = {row.partition(",")[2] for data in self.files if b"02-30" not in data
                   for row in data.decode("utf-8-sig").splitlines() if ",issue," in row}
-        assert issues == {record for record in records if record.startswith("issue,")}
+        posted = {record for record in records if record.startswith("issue,")}
+        waits = {held["text"].partition(",")[2].rstrip() for entry in entries for held in entry["held"]
+                 if held["state"] != "released"}
+        assert posted <= issues and issues - posted <= waits, (posted - issues, issues - posted - waits)
 
 
 def judge_rows(entry: dict[str, Any]) -> None:
