@@ -337,7 +337,8 @@ class Found:
         self.wrong += [f"{key} is held, or gone, and needs no exception" for key in sorted(EXCEPTED - self.bare)]
         unbuilt = self.premises - built
         self.wrong += [f"no worked case builds the premise {key}" for key in sorted(unbuilt - BUILT_BY_A_CLAUSE.keys())]
-        self.wrong += [f"{key} is built, or no premise, and needs no reason" for key in sorted(BUILT_BY_A_CLAUSE.keys() - unbuilt)]
+        built_otherwise = BUILT_BY_A_CLAUSE.keys() - unbuilt
+        self.wrong += [f"{key} is built, or no premise, and needs no reason" for key in sorted(built_otherwise)]
         told, self.conditional = told_conditional(shown, others)
         self.wrong += told + told_data(texts) + told_empty(texts, self.promise | self.cases)
         if len(EXCEPTED) >= 20:
