@@ -63,11 +63,11 @@ def lines(setting: timing.Setting) -> Iterator[timing.Row]:
     found = timing.in_turn(setting.rounds, {n: lambda n=n: Arrivals(setting, n) for n in (1, 8)})
     first = {n: median([run.lines[1] - run.records[0] for run in runs]) * 1000 for n, runs in found.items()}
     middle = {n: median([median(run.behind()) for run in runs]) for n, runs in found.items()}
-    yield ("the first line of a run at its reader, behind its record in the file", f"{first[1]:.2f} ms",
+    yield ("the first line of a run at its reader, after its record in the file", f"{first[1]:.2f} ms",
            f"the run's lines in the median {middle[1]:.2f} ms")
     yield ("with eight clerks", f"{first[8]:.2f} ms", f"the run's lines in the median {middle[8]:.2f} ms")
     longest = {n: median([max(run.behind()) for run in runs]) for n, runs in found.items()}
-    yield ("the longest wait of a reader for a line, behind its record", f"{longest[1]:.2f} ms",
+    yield ("the longest wait of a reader for a line, after its record", f"{longest[1]:.2f} ms",
            f"eight clerks {longest[8]:.2f} ms")
 
 
