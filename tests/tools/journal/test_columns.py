@@ -1,14 +1,12 @@
 """Compares the reader that works on columns with the one that judges record by record: on drawn and damaged journals both
-report the same about the file, each policy, what each command books, and the book as it was before. The fullest journals are
-read within limits of processor seconds."""
-from __future__ import annotations
-
+report the same about the file, each policy, what each command books, and the book as it was before. Both take the same tables of
+rules, so the independent rules judge the commands as well. The fullest journals are read within limits of processor seconds."""
 import datetime
 import resource
 import subprocess
 import sys
 from collections import Counter
-from dataclasses import replace
+from dataclasses import astuple, replace
 from pathlib import Path
 from random import Random
 from typing import Callable
@@ -24,7 +22,9 @@ from life_tools.journal.columns import Columns, judged
 from life_tools.journal.file import RECORD_SIZE, Journal, file_of, gate_of, read_journal
 from life_tools.journal.record_texts import lines_of, plain_template, transactions_of
 from life_tools.rules.commands import CODES, Command, words_of
-from life_tools.rules.policies import ACCOUNTS, Book, bookings
+from life_tools.rules.policies import Book, bookings
+from life_tools.rules.tables import ACCOUNTS
+from tests.rules import policies as independent
 from tests.support.big_journals import write
 from tests.support.drawn_scripts import make_book, make_script
 from tests.support.lived_books import lived
@@ -62,7 +62,6 @@ def moved(draw: Random, command: Command) -> datetime.date:
 
 
 def changed(draw: Random, command: Command, others: list[Command]) -> Command:
-    """Returns a command in which one field has another value, mostly a valid one."""
     field = draw.choice(("kind", "kind", "number", "day", "day", "day", "amount", "amount", "premium"))
     if field == "kind" and draw.random() < 0.5:
         return replace(command, kind=draw.choice(list(CODES)))
@@ -78,7 +77,6 @@ def changed(draw: Random, command: Command, others: list[Command]) -> Command:
 
 
 def disordered(draw: Random, commands: list[Command]) -> list[Command]:
-    """Returns the commands with one of them changed, left out, repeated or moved."""
     kind = draw.choice(sorted({it.kind for it in commands}))
     made, at = list(commands), draw.choice([at for at, it in enumerate(commands) if it.kind == kind])
     what = draw.randrange(8)
@@ -94,7 +92,6 @@ def disordered(draw: Random, commands: list[Command]) -> list[Command]:
 
 
 def damaged(draw: Random, data: bytearray) -> bytes:
-    """Returns the bytes with some of them changed, cut off or added."""
     what, place = draw.randrange(6), draw.randrange(len(data))
     if what == 0:
         return bytes(data[:place])
@@ -110,12 +107,13 @@ def damaged(draw: Random, data: bytearray) -> bytes:
     return bytes(data)
 
 
-def drawn_journal(draw: Random) -> bytes:
+def drawn_journal(draw: Random) -> tuple[bytes, list[Command] | None]:
+    """Returns the bytes of a journal with its commands, or with None if some bytes of the file are changed."""
     commands, what = drawn(draw), draw.randrange(8)
     if what > 3 and commands:
         commands = disordered(draw, commands)
     data = file_of(commands)
-    return damaged(draw, bytearray(data)) if what in (2, 3) else data
+    return (damaged(draw, bytearray(data)), None) if what in (2, 3) else (data, commands)
 
 
 # --- both readers ---
@@ -133,12 +131,32 @@ def compare_books(columns: Columns, book: Book, booked: list[Booked]) -> None:
 
 
 def compare_texts(columns: Columns, booked: list[Booked]) -> None:
-    """Compares the lines of `read`, and those of its ledger."""
     lines = [",".join([str(position), *words_of(command)]) + "\n" for position, (command, _) in enumerate(booked, 1)]
     assert "".join(lines_of(columns.records, plain_template)) == "".join(lines)
     ledger = [f"{command.day} {command.kind} {command.number}\n"
               + "".join(f"    {name}  {money(each)}\n" for name, each in on.items()) + "\n" for command, on in booked if on]
     assert "".join(transactions_of(columns)) == "".join(ledger)
+
+
+def compare_rules(found: Columns | Journal, commands: list[Command]) -> None:
+    """Compares what a reader makes of commands with the independent rules, up to a record that encodes no command."""
+    book, balances = independent.Book(), dict.fromkeys(independent.ACCOUNTS, 0)
+    is_misspelled = isinstance(found, Journal) and "can't follow" not in found.why
+    if isinstance(found, Journal) and is_misspelled:
+        commands = commands[:int(found.refused.rpartition(",")[2])]
+    for place, command in enumerate(commands):
+        answer = book.decide(command)
+        if isinstance(answer, independent.Refusal):
+            why = f"command {place + 1} can't follow: {','.join(answer.words())}"
+            assert isinstance(found, Journal) and found.why.endswith(why), (found, why)
+            return
+        for account, cents in book.post(command).items():
+            balances[account] += cents
+    if is_misspelled:
+        return
+    assert isinstance(found, Columns) and found.balances == balances and found.upgrade == book.upgrade
+    policies = [astuple(found.policies.policy(place)) for place in range(len(found.policies))]
+    assert policies == [astuple(each) for each in book.policies.values()]
 
 
 def said_of(read: Callable[[bytes], object], data: bytes) -> object:
@@ -171,10 +189,12 @@ def compare_checkpoint(draw: Random, columns: Columns, book: Book) -> str:
     return "checkpoint"
 
 
-def compare(draw: Random, data: bytes) -> list[str]:
-    """Compares both readers on the same bytes, and returns what they report: a reason of a refusal, or `right` with a word
-    about a checkpoint."""
+def compare(draw: Random, data: bytes, commands: list[Command] | None) -> list[str]:
+    """Compares both readers on the same bytes, and with the independent rules if the commands are known; returns what they
+    report: a reason of a refusal, or `right` with a word about a checkpoint."""
     slow, found = read_journal(data), judged(data)
+    if commands is not None:
+        compare_rules(found, commands)
     if slow.refused or not isinstance(found, Columns):
         assert isinstance(found, Journal) and (found.refused, found.why) == (slow.refused, slow.why)
         return [slow.why.split(": ")[-1].split(",")[0] if "can't follow" in slow.why else slow.refused]
@@ -192,9 +212,9 @@ def test_drawn_and_damaged_journals(block: int, monkeypatch: pytest.MonkeyPatch)
     for seed in range(block, JOURNALS, BLOCKS):
         draw = Random(seed)
         monkeypatch.setattr(replays, "FEW", draw.choice((0, 2, 24)))
-        data = drawn_journal(draw)
+        data, commands = drawn_journal(draw)
         try:
-            met.update(compare(draw, data))
+            met.update(compare(draw, data, commands))
         except AssertionError as error:
             raise AssertionError(f"seed {seed}: {error}") from error
     assert len(REASONS & set(met)) > len(REASONS) // 2 and met["right"] > JOURNALS // BLOCKS // 3, met
@@ -206,23 +226,24 @@ def test_drawn_and_damaged_journals(block: int, monkeypatch: pytest.MonkeyPatch)
 def test_each_reason_of_a_refusal_is_met(reason: str) -> None:
     for seed in range(4 * JOURNALS):
         draw = Random(f"{reason} {seed}")
-        data = file_of(disordered(draw, drawn(draw)))
+        commands = disordered(draw, drawn(draw))
+        data = file_of(commands)
         slow = read_journal(data)
         if "can't follow" in slow.why and slow.why.split(": ")[-1].split(",")[0] == reason:
-            assert compare(draw, data) == [reason]
+            assert compare(draw, data, commands) == [reason]
             return
     raise AssertionError(f"{reason} isn't drawn")
 
 
 def test_records_without_an_issue_of_great_numbers() -> None:
-    compare(Random(0), file_of([Command("claim", MOST_NUMBER - at, FIRST_DAY) for at in range(3)]))
+    commands = [Command("claim", MOST_NUMBER - at, FIRST_DAY) for at in range(3)]
+    assert compare(Random(0), file_of(commands), commands) == ["unknown"]
 
 
 # --- the fullest journals ---
 
 
 def within(seconds: int, folder: Path, *words: str) -> subprocess.CompletedProcess[str]:
-    """Runs a tool with a limit of processor seconds."""
     return subprocess.run([sys.executable, str(ROOT / "tools" / "life-tools"), *words], cwd=folder, capture_output=True,
                           text=True, check=False, preexec_fn=lambda: resource.setrlimit(resource.RLIMIT_CPU, (seconds, seconds)))
 

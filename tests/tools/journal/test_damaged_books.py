@@ -1,9 +1,6 @@
 """Tests that a tool which reads a journal shows nothing of a damaged one: it ends with status 1 and reports what is wrong."""
-from __future__ import annotations
-
 import shutil
 import subprocess
-from pathlib import Path
 
 import pytest
 
@@ -11,8 +8,6 @@ from tests.support.folders import Folder
 from tests.support.program import ROOT
 from tests.support.windows import Window
 
-# docs/reference/journal.md: 17 bytes come before the first record, and a record has 65 bytes
-FIRST, RECORD = 17, 65
 DAMAGED = "bytes follow byte"
 TOOLS = (
     "audit flags", "audit sample 3 --seed 1 --on 2022-12-31", "at 2 state", "check small-office.csv", "dry-run small-office.csv",
@@ -24,19 +19,12 @@ TOOLS = (
 )
 
 
-def damage(journal: Path, record: int) -> None:
-    """Sets the commit byte of a record, counted from 0, to 0."""
-    data = bytearray(journal.read_bytes())
-    data[FIRST + RECORD * record] = 0
-    journal.write_bytes(data)
-
-
 @pytest.fixture
 def damaged(small_office: Folder) -> Folder:
     numbers = sorted({line.split(",")[2] for line in small_office.read("small-office.csv").splitlines() if ",issue," in line})
     small_office.write("classes.csv", "".join(f"{number},all\n" for number in numbers))
     small_office.write("bases.csv", "all,basis.csv\n")
-    damage(small_office.journal, 5)
+    small_office.damage(5)
     return small_office
 
 
@@ -52,7 +40,7 @@ def test_a_tool_shows_nothing_of_a_damaged_book(damaged: Folder, words: str) -> 
 def test_letters_of_a_sample_of_a_damaged_book(small_office: Folder) -> None:
     small_office.write("sample", small_office.printed("audit", "sample", "3", "--seed", "1", "--on", "2022-12-31"))
     assert small_office.printed("audit", "letters", "sample")
-    damage(small_office.journal, 5)
+    small_office.damage(5)
     ended = small_office.tools("audit", "letters", "sample")
     assert (ended.status, ended.out) == (1, "") and DAMAGED in ended.err, ended
 

@@ -1,7 +1,5 @@
 """Compares the tables of `export`, in SQLite and as frames for pandas, with what the program prints; the days of policies are
 worked out by hand."""
-from __future__ import annotations
-
 import re
 import sqlite3
 from pathlib import Path

@@ -3,8 +3,6 @@ and give status 1.
 
 Each position and each list is worked out by hand from the script in this file.
 """
-from __future__ import annotations
-
 import pytest
 
 from tests.support.folders import Folder

@@ -1,7 +1,5 @@
 """Compares what the tools read from a book with what the program prints for it: records, balances, the book as it was,
 exports, a checkpoint, positions."""
-from __future__ import annotations
-
 import csv
 import io
 import json
@@ -23,7 +21,6 @@ def records(folder: Folder) -> list[str]:
 
 
 def entries(folder: Folder, number: str) -> list[str]:
-    """Returns the lines that `state` prints for a policy's postings."""
     return lines(folder.life("state", number).out, "entry,")
 
 

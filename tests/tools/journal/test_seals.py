@@ -1,6 +1,4 @@
 """Tests `seal`: a change of any byte of a sealed book, its basis or its tables is reported; a change by later postings isn't."""
-from __future__ import annotations
-
 from pathlib import Path
 
 import pytest
@@ -77,6 +75,27 @@ def test_a_book_that_has_become_shorter(office: Folder) -> None:
     office.journal.write_bytes(office.journal.read_bytes()[:732] + b"\x00")
     office.finds("seal", "--check", "newer", says="has 733 bytes, and the front had 1837")
     office.finds("seal", "--check", "seal", says="had 27 when it was sealed: those after position 11 are gone")
+
+
+@pytest.mark.parametrize("script", ["", "1,upgrade\n"], ids=["empty", "an upgrade alone"])
+def test_a_book_without_a_day(examples_basis: Folder, script: str) -> None:
+    """An upgrade has no day, so the seal of a book with nothing else names none, and a remark says why."""
+    examples_basis.post(script)
+    count = examples_basis.count()
+    sealed = examples_basis.tools("seal")
+    assert sealed.status == 0 and sealed.out.splitlines()[1] == f"position,{count},{count},", sealed
+    assert f"no posting up to position {count} has a day" in sealed.err
+    examples_basis.write("seal", sealed.out)
+    examples_basis.printed("seal", "--check", "seal")
+    examples_basis.printed("backup", "copy")
+    assert f"\nposition,{count},{count},\n" in examples_basis.read("copy/backup.seal")
+
+
+@pytest.mark.parametrize("words", [["--at", "2"], []])
+def test_the_day_of_a_book_that_begins_with_an_upgrade(examples_basis: Folder, words: list[str]) -> None:
+    examples_basis.post("1,upgrade\n1,issue,1,2021-03-04,term,40,20,1000.00,10.00\n")
+    sealed = examples_basis.tools("seal", *words)
+    assert sealed.out.splitlines()[1] == "position,2,2,2021-03-04" and "has a day" not in sealed.err, sealed
 
 
 @pytest.mark.parametrize(("words", "says"), [

@@ -1,13 +1,9 @@
 """Tests that a damaged byte isn't reported as a shorter book: commit bytes at the start, in the middle and at the end, with
 and without a checkpoint, a log and a seal, by each tool that reads a book. Damage is distinguished from what a crash leaves if
 a greater count was recorded somewhere. The lengths and counts are those of docs/reference/journal.md, worked out by hand."""
-from __future__ import annotations
-
-import fcntl
 import json
 import os
 import re
-import shlex
 
 import pytest
 
@@ -18,12 +14,9 @@ EMPTY = b"\x01LIFEJRNL\x00\x01\x00\x40\x00\x00\x00\x00\x00"
 LENGTH = 17 + 65 * 40 + 1
 WHOLE = f"count,40\nlength,{LENGTH}\nwhole\n"
 UNDECIDED = f"count,39\nlength,{LENGTH}\nundecided\n"
-READERS = ("read journal.life", "position-on 2024-12-31 journal.life", "seal --no-basis", "at 10 state", "report 2010-12-31",
-           "export csv journal.life", "due 2010-12-31", "dry-run script", "check script", "audit flags", "headroom")
 
 
 def commit_byte(record: int) -> int:
-    """Returns the place of the commit byte of a record, counted from 0."""
     return 17 + 65 * record
 
 
@@ -79,19 +72,6 @@ def test_a_closed_commit_byte_before_the_last(book: Folder, record: int) -> None
 def test_each_value_but_1_closes(book: Folder) -> None:
     set_byte(book, commit_byte(25), 0o201)
     is_told_damaged(book, "which isn't 1")
-
-
-@pytest.mark.parametrize("words", READERS)
-def test_no_tool_reads_a_damaged_book(book: Folder, words: str) -> None:
-    set_byte(book, commit_byte(25), 0)
-    book.refused(*shlex.split(words), says="which isn't 1", status=1)
-
-
-@pytest.mark.parametrize("words", ["value 2010-12-31", "project 2010-12-31 2"])
-def test_a_list_leaves_out_a_damaged_book(book: Folder, words: str) -> None:
-    set_byte(book, commit_byte(25), 0)
-    rows = ends(book, 1, "which isn't 1", "books", "books.csv", *words.split()).out.splitlines()
-    assert rows[0].startswith("main,failed,1,") and rows[1:] == ["all,nothing,0,1"], rows
 
 
 # --- the last commit byte, which may also be 0 after a crash ---
@@ -203,8 +183,7 @@ def test_a_journal_that_has_grown_is_still_that_of_its_seal(book: Folder) -> Non
 
 
 def test_a_journal_in_use(book: Folder) -> None:
-    with open(book.journal, "rb") as held:
-        fcntl.flock(held, fcntl.LOCK_EX)
+    with book.in_use():
         ends(book, 2, f"journal.life is in use by process {os.getpid()}", "verify")
 
 

@@ -1,7 +1,5 @@
 """Tests the advice on a refused line, by its kind: nobody who follows it pays for a death outside the cover. Deaths of drawn
 policies that are reported late are judged as the program would have judged them on their day."""
-from __future__ import annotations
-
 import datetime
 import re
 from collections import Counter
@@ -52,8 +50,6 @@ def test_what_is_no_refusal(folder: Folder, words: list[str], says: str) -> None
 
 @dataclass(frozen=True)
 class Case:
-    """The postings of a policy, a death near one of them, and the advice on it."""
-
     life: list[Command]
     death: Command
 
@@ -63,13 +59,11 @@ class Case:
 
     @property
     def advised(self) -> Command | None:
-        """The claim that the advice says to post."""
         found = re.search("post the claim of ([0-9-]{10})", self.text)
         return replace(self.death, day=datetime.date.fromisoformat(found[1])) if found else None
 
     @property
     def then(self) -> list[Command]:
-        """The postings up to the day of the death."""
         return [it for it in self.life if it.on <= self.death.on]
 
 

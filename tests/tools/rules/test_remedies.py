@@ -1,17 +1,16 @@
 """Tests each pair of a kind of line and a reason for which it can be refused: the program refuses the line, its remedy is
 carried out, and what the remedy says to post is then accepted. A remedy that posts nothing says so, or refers the case."""
-from __future__ import annotations
-
 import datetime
-from dataclasses import dataclass, field
+from dataclasses import astuple, dataclass, field
 
 import pytest
 
 from life_tools.common.formats import FIELDS, money
+from life_tools.rules import policies
 from life_tools.rules.commands import Command
-from life_tools.rules.policies import Book, Refusal
 from life_tools.rules.remedies import AGAIN, BY_PAIR, OTHER_AMOUNT, OTHER_BOOK, OTHER_DAY, OTHER_NUMBER, Remedy, remedy_of
 from life_tools.scripts.lines import lines_in
+from tests.rules.policies import Book, Policy, Refusal
 from tests.support.folders import Folder
 
 # an endowment of three years; premiums of 100.00 are due on 1 January of 2020, 2021 and 2022, and it ends on 2023-01-01
@@ -126,14 +125,12 @@ ELSEWHERE = ("full", "ahead", "trimmed", "pinsfull")
 
 
 def posted(folder: Folder, lines: tuple[str, ...]) -> None:
-    """Posts these lines, and asserts that each of them is accepted."""
     out = folder.post("".join(f"1,{line}\n" for line in lines))
     answers = [line for line in out.splitlines() if not line.startswith("watcher")]
     assert len(answers) == len(lines) and all(",accepted," in each for each in answers), out
 
 
 def refused(folder: Folder, line: str) -> list[str]:
-    """Posts a line, asserts that the program refuses it, and returns the reason."""
     fields = folder.post(f"1,{line}\n").splitlines()[0].split(",")
     assert fields[3] == "refused", fields
     return fields[4:]
@@ -158,7 +155,6 @@ def amount_for(words: list[str]) -> str:
 
 
 def row_of(step: str, scene: Scene, words: list[str]) -> str:
-    """Returns the row that a step of a remedy posts."""
     day, line = scene.line.split(",")[2:3], scene.line
     if step == AGAIN:
         return line
@@ -201,20 +197,29 @@ def test_each_pair_and_each_way_has_a_scene() -> None:
     assert tried == told, (tried - told, told - tried)
 
 
+def said(answer: object) -> object:
+    """Returns the words of a refusal, or the fields of the policy that an accepted line leaves."""
+    if isinstance(answer, (Refusal, policies.Refusal)):
+        return answer.words()
+    return astuple(answer) if isinstance(answer, (Policy, policies.Policy)) else "upgraded"
+
+
 def test_the_table_has_each_pair_that_the_rules_give() -> None:
-    """Each kind of line is tried for a policy in each state, on each of many days, with a right amount and with a wrong one."""
+    """Each kind of line is tried for a policy in each state, on each of many days, with a right amount and with a wrong one. The
+    tools decide each as the independent rules do."""
     found = set()
     states = [FORCE, PAID, LONG, *STATES.values()]
     setups = [*states, *(("upgrade", *lines) for lines in states if lines[0] != "upgrade")]
     days = [datetime.date(2019, 12, 1) + datetime.timedelta(10 * place) for place in range(200)]
     for setup in setups:
         lines = lines_in("".join(f"1,{line}\n" for line in setup).encode(), "script")
-        book = Book(line.command for line in lines if line.command)
+        book, of_tools = Book(line.posted for line in lines), policies.Book(line.posted for line in lines)
         for kind in (*FIELDS, "upgrade"):
             for day in days:
                 for number, amount in ((7, 10000), (7, 50), (7, 10**9), (8, 10000)):
                     tried = Command(kind, number, day, "term", 30, 10, amount, 1000) if kind != "upgrade" else Command(kind)
-                    answer = book.judge(tried)
+                    answer, told = book.judge(tried), of_tools.judge(tried)
+                    assert said(told) == said(answer), (setup, tried)
                     if isinstance(answer, Refusal):
                         found.add((kind, ",".join(answer.words()[:2]) if answer.word == "wrongstatus" else answer.word))
     assert found == {pair for pair in BY_PAIR if pair[1] not in ELSEWHERE}

@@ -6,11 +6,11 @@ from dataclasses import dataclass, fields
 from life_tools.common.arrays import Array, np
 from life_tools.journal.checkpoints import HEADER_SIZE, POLICY_SIZE, Header, header_in, policy_in
 from life_tools.journal.columns import Columns
-from life_tools.rules.commands import LAST_AGE
-from life_tools.journal.day_columns import FIRST, LAST, anniversaries
+from life_tools.journal.day_columns import FIRST, LAST
 from life_tools.common.formats import MOST_CENTS, STATUSES, Wrong
-from life_tools.journal.records import WHOLE, is_issue_right
-from life_tools.journal.policy_columns import CLAIMED, ENDOWMENT, MATURED, TERM, Policies
+from life_tools.journal.records import is_issue_right
+from life_tools.journal.policy_columns import Policies, issue_terms
+from life_tools.rules.tables import CLAIMED, LAST_AGE, MATURED
 
 # a policy as it is stored in the file
 POLICY = np.dtype([("number", ">u4"), ("plan", "u1"), ("age", "u1"), ("years", "u1"), ("paid", "u1"), ("status", "u1"),
@@ -51,10 +51,8 @@ def policies_of(raw: Array) -> Policies:
         ("number", np.uint32), ("plan", np.uint8), ("age", np.uint8), ("years", np.uint8), ("issued", np.int32)))
     amount, premium, outstanding = (raw[name].astype(np.uint64).view(np.int64) for name in ("amount", "premium", "outstanding"))
     # a policy that is not sound may have any cover
-    years_to_end = np.maximum(LAST_AGE - age.astype(np.int16), 0)
-    cover = np.where((plan == TERM) | (plan == ENDOWMENT), np.minimum(years, LAST_AGE), years_to_end)
-    end = anniversaries(np.clip(issued, FIRST, LAST), cover)
-    return Policies(number, plan, age, years, issued, cover, np.where(plan == WHOLE, years_to_end, years), end, amount, premium,
+    terms = issue_terms(plan, np.minimum(age, LAST_AGE), np.minimum(years, LAST_AGE), np.clip(issued, FIRST, LAST))
+    return Policies(number, plan, age, years, issued, terms.cover, terms.payments, terms.end, amount, premium,
                     raw["last"].astype(np.int32), raw["status"].copy(), raw["paid"].astype(np.int16), outstanding)
 
 

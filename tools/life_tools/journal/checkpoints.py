@@ -5,9 +5,10 @@ import datetime
 from dataclasses import dataclass
 from typing import Iterable, NamedTuple
 
-from life_tools.rules.commands import EPOCH, PLAN_CODES, Command, demand_valid
+from life_tools.rules.commands import EPOCH, Command, demand_valid
 from life_tools.common.formats import FIRST_DAY, LAST_DAY, MOST_COMMANDS, PLANS, STATUSES, Wrong, demand
-from life_tools.rules.policies import ACCOUNTS, Book, Policy, balances_of, payments_of
+from life_tools.rules.policies import Book, Policy, balances_of, payments_of
+from life_tools.rules.tables import ACCOUNTS, PLAN_CODES
 
 HEADER = b"LIFECHKP" + bytes([0, 1, 0, 48, 0, 0, 0, 0])
 HEADER_SIZE, POLICY_SIZE, OPEN = 64, 48, 1

@@ -8,16 +8,16 @@ from __future__ import annotations
 import io
 from dataclasses import dataclass
 
-from life_tools.rules.commands import command_in
+from life_tools.rules.commands import CODES, command_in
 from life_tools.common.formats import Wrong, demand
-from life_tools.journal.records import CLAIM, MATURE, PREMIUM, REINSTATE, SETTLE, Records, records_of
+from life_tools.journal.records import Records, records_of
 from life_tools.journal.file import BadJournal, Journal, bad_record
-from life_tools.common.arrays import Array, Cents, np
+from life_tools.common.arrays import Array, Cents
 from life_tools.journal.policy_columns import Policies
 from life_tools.journal.blocks import Blocks, blocks_at
 from life_tools.journal.wholeness import demand_undamaged
 from life_tools.journal.replays import Replay
-from life_tools.rules.policies import ACCOUNTS
+from life_tools.rules.tables import ACCOUNTS, BOOKINGS
 
 
 @dataclass(frozen=True)
@@ -43,13 +43,14 @@ class Columns:
         demand(0 <= count <= self.count, f"there are {self.count} commands, and not {count}")
         return self if count == self.count else book_of(Replay(self.records.front(count)))
 
-    def booked_by(self, *kinds: int) -> int:
-        return int(self.booked[np.isin(self.records.kind, kinds)].sum())
-
     @property
     def balances(self) -> dict[str, int]:
-        received, paid, incurred = self.booked_by(PREMIUM, REINSTATE), self.booked_by(SETTLE), self.booked_by(CLAIM, MATURE)
-        return dict(zip(ACCOUNTS, (received - paid, -received, incurred, paid - incurred)))
+        balances = dict.fromkeys(ACCOUNTS, 0)
+        for kind, booking in BOOKINGS.items():
+            cents = booking.sign * int(self.booked[self.records.kind == CODES[kind]].sum())
+            balances[booking.first] += cents
+            balances[booking.second] -= cents
+        return balances
 
 
 def book_of(replay: Replay) -> Columns:

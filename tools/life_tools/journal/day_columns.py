@@ -7,7 +7,7 @@ from life_tools.rules.commands import day_at, number_at
 from life_tools.common.formats import FIRST_DAY, LAST_DAY
 from life_tools.common.arrays import Array, np
 
-__all__ = ["FIRST", "FIRST_YEAR", "LAST", "LAST_YEAR", "NEVER", "anniversaries", "completed_years", "day_at", "number_at",
+__all__ = ["FIRST", "FIRST_YEAR", "LAST", "LAST_YEAR", "anniversaries", "completed_years", "day_at", "number_at",
            "text_at", "texts_at", "years_at"]
 
 FIRST, LAST = number_at(FIRST_DAY), number_at(LAST_DAY)
@@ -16,8 +16,6 @@ FIRST_YEAR = FIRST_DAY.year
 LAST_YEAR = 2400
 # the place of 29 February in a leap year, from 0
 LEAP_DAY = 31 + 28
-# a day later than every day that a policy has
-NEVER = np.int32(2**31 - 1)
 
 
 def calendar() -> tuple[Array, Array, Array, Array]:

@@ -1,7 +1,7 @@
-"""Applies the rules to columns of policies at once; each row decides one command on a policy of its own.
+"""Applies the tables of rules to columns of policies at once; each row decides one command on a policy of its own.
 
-`rules/policies.py` has the rules for a single command. The same rules stand here over columns, and a test compares the two on
-drawn and damaged journals. This module only finds that a command is refused; `policies.decide` gives the reason.
+`rules/policies.py` applies the same tables to a single command, and a test compares the two on drawn and damaged journals. This
+module only finds that a command is refused; `policies.decide` gives the reason.
 """
 from __future__ import annotations
 
@@ -9,21 +9,30 @@ from dataclasses import dataclass, fields
 from functools import cached_property
 from typing import NamedTuple, Sequence, Union
 
-from life_tools.rules.commands import LAST_AGE, PLAN_CODES
-from life_tools.journal.day_columns import NEVER, anniversaries, completed_years, day_at, number_at
-from life_tools.common.formats import PLANS, STATUSES
-from life_tools.journal.records import ALTER, CLAIM, LAPSE, MATURE, PAIDUP, PREMIUM, REINSTATE, SETTLE, WHOLE, Records
 from life_tools.common.arrays import Array, Cents, np
-from life_tools.rules.policies import EARLY, GRACE, REINSTATEMENT_ANNIVERSARIES, Policy
+from life_tools.common.formats import KINDS, PLANS, STATUSES
+from life_tools.journal.day_columns import anniversaries, completed_years, day_at, number_at
+from life_tools.journal.records import Records
+from life_tools.rules import tables
+from life_tools.rules.policies import Policy
+from life_tools.rules.tables import CHANGES, CHECKS, CODE_OF_STATUS, INFORCE, PLAN_CODES, Line
 
-# the codes of the statuses, as in a checkpoint
-INFORCE, LAPSED, CLAIMED, MATURED, EXPIRED, SETTLED, MADE_PAIDUP = range(1, len(STATUSES) + 1)
-TERM, ENDOWMENT = PLAN_CODES["term"], PLAN_CODES["endowment"]
-CODE_OF_STATUS = {status: code for code, status in enumerate(STATUSES, 1)}
+
+class OfColumns:
+    """What the tables of rules ask of columns of policies."""
+
+    issued: Array
+    either = staticmethod(np.where)
+
+    def anniversary(self, years: Array) -> Array:
+        return anniversaries(self.issued, years)
+
+    def years_since_issue(self, day: Array) -> Array:
+        return completed_years(self.issued, day)
 
 
 @dataclass(frozen=True)
-class Policies:
+class Policies(OfColumns):
     """Policies in order of issue, at places from 0.
 
     Plans and statuses are codes, days count from 1970-01-01, amounts are in cents.
@@ -69,7 +78,7 @@ class Policies:
         return due_of(self)
 
 
-class Chosen:
+class Chosen(OfColumns):
     """The policies at some places. A column is selected when it is first asked for, and only then."""
 
     def __init__(self, policies: Policies, places: Array) -> None:
@@ -90,8 +99,19 @@ Some = Union[Policies, Chosen]
 
 def due_of(of: Some) -> Array:
     """Returns the day on which the next premium is due, or NEVER if all are paid or the policy is paid up."""
-    none = (of.status == MADE_PAIDUP) | (of.paid >= of.payments)
-    return np.where(none, NEVER, anniversaries(of.issued, np.where(none, 0, of.paid)))
+    due: Array = tables.due_of(of)
+    return due
+
+
+def missed_by(of: Some, day: Array) -> Array:
+    """Returns how many unpaid premiums fell due up to and including the day."""
+    missed: Array = tables.missed_by(of, day)
+    return missed
+
+
+def is_insured(of: Some) -> Array:
+    insured: Array = tables.is_insured(of)
+    return insured
 
 
 class IssueTerms(NamedTuple):
@@ -108,9 +128,9 @@ class IssueTerms(NamedTuple):
 
 
 def issue_terms(plan: Array, age: Array, years: Array, issued: Array) -> IssueTerms:
-    years_to_end = LAST_AGE - age.astype(np.int16)
-    cover = np.where((plan == TERM) | (plan == ENDOWMENT), years, years_to_end)
-    return IssueTerms(plan, age, years, issued, cover, np.where(plan == WHOLE, years_to_end, years), anniversaries(issued, cover))
+    # 131 less an age has to fit, whatever the age
+    cover, payments = tables.cover_of(plan, age.astype(np.int16), years, np.where)
+    return IssueTerms(plan, age, years, issued, cover, payments, anniversaries(issued, cover))
 
 
 def issued_by(records: Records, places: Array) -> Policies:
@@ -139,97 +159,22 @@ def together(one: Policies, other: Policies) -> Policies:
     return Policies(*(np.concatenate([getattr(one, column.name), getattr(other, column.name)]) for column in fields(one)))
 
 
-# --- the rules, of policies and of a command on each ---
+# --- a command on each policy ---
 
-def missed(of: Some, day: Array) -> Array:
-    """Returns how many unpaid premiums fell due up to and including the day."""
-    return np.maximum(np.minimum(completed_years(of.issued, day) + 1, of.payments) - of.paid, 0)
-
-
-def is_in_grace(of: Some, day: Array) -> Array:
-    """Returns whether the days of grace of the next premium, if there is one, are not over."""
-    # NEVER, the due day if no premium is due, is later than each day
-    found: Array = day - GRACE.days <= of.due
-    return found
+def is_refused(of: Some, kind: int, day: Array, amount: Cents) -> Array:
+    """Returns for each policy whether the rules refuse a command of this kind, which is neither an issue nor an upgrade."""
+    first, *others = CHECKS[KINDS[kind]]
+    refused: Array = first.applies(of, day, amount)
+    for check in others:
+        refused |= check.applies(of, day, amount)
+    return refused
 
 
-def is_premium_right(of: Some, day: Array, amount: Cents) -> Array:
-    found: Array = ((of.status == INFORCE) & (day < of.end) & (day >= of.due - EARLY.days) & is_in_grace(of, day)
-                    & (amount == of.premium))
-    return found
-
-
-def is_alter_right(of: Some, day: Array, amount: Cents) -> Array:
-    found: Array = (of.status == INFORCE) & (day < of.end) & is_in_grace(of, day) & (amount < of.amount)
-    return found
-
-
-def is_lapse_right(of: Some, day: Array, amount: Cents) -> Array:
-    found: Array = (of.status == INFORCE) & (of.due != NEVER) & ~is_in_grace(of, day)
-    return found
-
-
-def is_reinstate_right(of: Some, day: Array, amount: Cents) -> Array:
-    limit = anniversaries(of.issued, of.paid + REINSTATEMENT_ANNIVERSARIES)
-    found: Array = (of.status == LAPSED) & (day < of.end) & (day <= limit) & (amount == missed(of, day) * of.premium)
-    return found
-
-
-def is_insured(of: Some) -> Array:
-    found: Array = (of.status == INFORCE) | (of.status == MADE_PAIDUP)
-    return found
-
-
-def is_claim_right(of: Some, day: Array, amount: Cents) -> Array:
-    found: Array = is_insured(of) & (day < of.end) & is_in_grace(of, day)
-    return found
-
-
-def is_settle_right(of: Some, day: Array, amount: Cents) -> Array:
-    found: Array = ((of.status == CLAIMED) | (of.status == MATURED)) & (amount <= of.outstanding)
-    return found
-
-
-def is_mature_right(of: Some, day: Array, amount: Cents) -> Array:
-    found: Array = is_insured(of) & is_in_grace(of, day) & (day >= of.end)
-    return found
-
-
-def is_paidup_right(of: Some, day: Array, amount: Cents) -> Array:
-    found: Array = is_alter_right(of, day, amount) & (of.due != NEVER)
-    return found
-
-
-RIGHT = {PREMIUM: is_premium_right, ALTER: is_alter_right, LAPSE: is_lapse_right, REINSTATE: is_reinstate_right,
-         CLAIM: is_claim_right, SETTLE: is_settle_right, MATURE: is_mature_right, PAIDUP: is_paidup_right}
-
-
-def is_accepted(of: Some, kind: int, day: Array, amount: Cents) -> Array:
-    """Returns for each policy whether the rules accept a command of this kind, which is neither an issue nor an upgrade."""
-    found: Array = (day >= of.last) & RIGHT[kind](of, day, amount)
-    return found
-
-
-def change(policies: Policies, places: Array, of: Some, kind: int, day: Array, amount: Cents, premium: Cents) -> None:
-    """Writes the effect of accepted commands of one kind into the policies at these places; `of` has their present columns."""
-    policies.last[places] = day
-    if kind == PREMIUM:
-        policies.paid[places] = of.paid + 1
-    elif kind == ALTER:
-        policies.amount[places] = amount
-        policies.premium[places] = premium
-    elif kind == LAPSE:
-        policies.status[places] = LAPSED
-    elif kind == REINSTATE:
-        policies.status[places] = INFORCE
-        policies.paid[places] = of.paid + missed(of, day)
-    elif kind == SETTLE:
-        policies.outstanding[places] = of.outstanding - amount
-        policies.status[places] = np.where(amount == of.outstanding, SETTLED, of.status)
-    elif kind == PAIDUP:
-        policies.amount[places] = amount
-        policies.status[places] = MADE_PAIDUP
-    else:
-        is_term = (of.plan == TERM) & (kind == MATURE)
-        policies.status[places] = np.where(is_term, EXPIRED, CLAIMED if kind == CLAIM else MATURED)
-        policies.outstanding[places] = np.where(is_term, 0, of.amount)
+def change(policies: Policies, places: Array, of: Some, kind: int, line: Line) -> dict[str, Array]:
+    """Writes the effect of accepted commands of one kind into the policies at these places, and returns the changed columns; `of`
+    has the present ones."""
+    changes = CHANGES[KINDS[kind]](of, line)
+    policies.last[places] = line.day
+    for name, column in changes.items():
+        getattr(policies, name)[places] = column
+    return changes

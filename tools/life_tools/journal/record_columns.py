@@ -55,6 +55,14 @@ class Columns:
             days[at] = days[at - 1] if at else number_at(FIRST_DAY)
         return days
 
+    def dated(self) -> array[int]:
+        """Returns the days of the commands that have one: of all except an upgrade."""
+        days, kinds = self.whole(DAY, "i"), self.kinds()
+        at = kinds.find(CODES["upgrade"])
+        if at >= 0:
+            del days[at]
+        return days
+
     def upgrade(self) -> int:
         """Returns the position of the upgrade, or 0."""
         return self.kinds().find(CODES["upgrade"]) + 1

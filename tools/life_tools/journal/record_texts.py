@@ -10,15 +10,13 @@ from life_tools.common.formats import FIELDS, KINDS, PLANS, STATUSES
 from life_tools.journal.records import Records
 from life_tools.journal.policy_columns import Policies
 from life_tools.common.progress import Progress
+from life_tools.rules.tables import BOOKINGS
 
 # number of records whose texts are made at once
 AT_ONCE = 1 << 15
 # the columns of each kind, by the names under which they are exported
 HELD = {kind: ("position", "policy", "day", *names) if kind != "upgrade" else ("position",) for kind, names in FIELDS.items()}
 TEXTS = ("day", "plan", "amount", "premium")
-# the accounts between which a kind moves its cents, and the sign of the first account
-BOOKED = {"premium": ("cash", 1, "premiums"), "reinstate": ("cash", 1, "premiums"), "settle": ("cash", -1, "payable"),
-          "claim": ("incurred", 1, "payable"), "mature": ("incurred", 1, "payable")}
 T = TypeVar("T")
 
 
@@ -76,9 +74,9 @@ def plain_template(kind: str) -> str:
 def transactions_of(book: Columns) -> Iterator[str]:
     """Yields what the commands book as transactions of plain text accounting, block by block."""
     def made(kind: str, places: Array) -> Iterator[str]:
-        if kind not in BOOKED:
+        if kind not in BOOKINGS:
             return ("" for _ in places)
-        first, sign, second = BOOKED[kind]
+        first, sign, second, _ = BOOKINGS[kind]
         signs = ("", "-") if sign > 0 else ("-", "")
         template = f"%s {kind} %s\n    {first}  {signs[0]}%s\n    {second}  {signs[1]}%s\n\n"
         cents = moneys(book.booked[places])

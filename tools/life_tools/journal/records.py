@@ -8,12 +8,13 @@ from __future__ import annotations
 from dataclasses import dataclass, fields
 from typing import Iterable, Iterator
 
-from life_tools.rules.commands import BODY_SIZE, LAST_AGE, OLDEST_AT_ISSUE, PLAN_CODES, Command
+from life_tools.rules.commands import BODY_SIZE, Command
 from life_tools.journal.day_columns import FIRST, LAST, day_at
-from life_tools.common.formats import FIELDS, KINDS, MOST_CENTS, MOST_REINSTATEMENT_CENTS, PLANS, demand, opened
+from life_tools.common.formats import FIELDS, KINDS, PLANS, demand, opened
 from life_tools.journal.file import FIRST_GATE, RECORD_SIZE, gate_of
 from life_tools.common.arrays import Array, Cents, np
 from life_tools.journal.blocks import AT_ONCE, Blocks, prefix_at
+from life_tools.rules.tables import most_cents, terms_fit
 
 # A record as it is stored in the file. The bytes after the premium are 0 for every kind. An amount of 2^63 or more is below 0
 # here, and therefore outside its limits as well.
@@ -24,7 +25,6 @@ assert RECORD.itemsize == RECORD_SIZE == BODY_SIZE + 1
 ROW = 64
 IDLE = np.frombuffer(ROW * (bytes(RECORD_SIZE - RECORD["idle"].itemsize) + b"\xff" * RECORD["idle"].itemsize), np.uint64)
 ISSUE, PREMIUM, ALTER, LAPSE, REINSTATE, CLAIM, SETTLE, MATURE, UPGRADE, PAIDUP = KINDS
-WHOLE = PLAN_CODES["whole"]
 
 
 @dataclass(frozen=True)
@@ -83,9 +83,8 @@ def limits(of: dict[str, tuple[int, int]]) -> tuple[Array, Array]:
     return np.array([least for least, _ in pairs], np.int64), np.array([most for _, most in pairs], np.int64)
 
 
-AMOUNTS = limits({kind: (1, MOST_REINSTATEMENT_CENTS if kind == "reinstate" else MOST_CENTS)
-                  for kind, held in FIELDS.items() if "amount" in held})
-PREMIUMS = limits({kind: (1, MOST_CENTS) for kind, held in FIELDS.items() if "premium" in held})
+AMOUNTS, PREMIUMS = (limits({kind: (1, most_cents(kind)) for kind, held in FIELDS.items() if name in held})
+                     for name in ("amount", "premium"))
 
 
 def is_within(values: Array, kinds: Array, of: tuple[Array, Array]) -> Array:
@@ -96,8 +95,7 @@ def is_within(values: Array, kinds: Array, of: tuple[Array, Array]) -> Array:
 
 def is_issue_right(plan: Array, age: Array, years: Array) -> Array:
     """Returns which issues have a plan, an age and years that fit together."""
-    do_years = np.where(plan == WHOLE, years == 0, (years >= 2) & (years <= LAST_AGE - age.astype(np.int16)))
-    right: Array = (plan >= 1) & (plan <= len(PLANS)) & (age <= OLDEST_AT_ISSUE) & do_years
+    right: Array = (plan >= 1) & (plan <= len(PLANS)) & terms_fit(plan, age.astype(np.int16), years)
     return right
 
 

@@ -7,10 +7,13 @@ from __future__ import annotations
 
 from typing import Iterator
 
-from life_tools.journal.records import CLAIM, ISSUE, MATURE, PAIDUP, PREMIUM, REINSTATE, SETTLE, UPGRADE, Records
+from life_tools.common.formats import KINDS
+from life_tools.journal.records import ISSUE, PAIDUP, UPGRADE, Records
 from life_tools.common.arrays import Array, Cents, np
-from life_tools.journal.policy_columns import RIGHT, TERM, Chosen, Policies, change, is_accepted, issued_by
-from life_tools.rules.policies import Policy, Refusal, booking_of, decide
+from life_tools.journal.policy_columns import Chosen, Policies, change, is_refused, issued_by
+from life_tools.rules.commands import CODES
+from life_tools.rules.policies import Policy, Refusal, decide, refused_by_upgrade
+from life_tools.rules.tables import BOOKINGS, CHECKS, Line
 
 # Numbers are looked up in a table if the greatest is at most SPREAD times the count plus LEAST_TABLE, and otherwise in a sorted
 # list.
@@ -108,7 +111,7 @@ class Replay:
         is_issue, is_upgrade = kind == ISSUE, kind == UPGRADE
         place[is_upgrade] = -1
         self.place[some] = place
-        np.copyto(self.booked[some], self.records.amount[some], where=BOOKS[kind])
+        np.copyto(self.booked[some], self.records.amount[some], where=BOOKS_AMOUNT[kind])
         issues, others = np.flatnonzero(is_issue), np.flatnonzero(~(is_issue | is_upgrade))
         self.finds_bad(at[issues[issued_at[place[issues]] != at[issues]]])
         self.finds_bad(at[others[issued_at[place[others]] > at[others]]])
@@ -142,7 +145,7 @@ class Replay:
             still = where < self.bad
             where, places = where[still], places[still]
         kinds = self.records.kind[where]
-        for kind in RIGHT:
+        for kind in JUDGED:
             chosen = np.flatnonzero(kinds == kind)
             if len(chosen):
                 self.judge_kind(kind, where[chosen], places[chosen])
@@ -150,10 +153,10 @@ class Replay:
     def judge_kind(self, kind: int, where: Array, places: Array) -> None:
         of, records = Chosen(self.policies, places), self.records
         day, amount = records.day[where], records.amount[where]
-        self.finds_bad(where[~is_accepted(of, kind, day, amount)])
-        change(self.policies, places, of, kind, day, amount, records.premium[where])
-        if kind in (CLAIM, MATURE):
-            self.booked[where] = np.where((of.plan == TERM) & (kind == MATURE), 0, of.amount)
+        self.finds_bad(where[is_refused(of, kind, day, amount)])
+        changes = change(self.policies, places, of, kind, Line(day, amount, records.premium[where]))
+        if BOOKS_OUTSTANDING[kind]:
+            self.booked[where] = changes["outstanding"]
 
     def judge_alone(self, place: int, where: Array) -> None:
         """Judges the remaining commands of one policy, one by one."""
@@ -165,18 +168,17 @@ class Replay:
                 self.finds_bad(np.array([at]))
                 break
             policy = after
-            if command.kind in ("claim", "mature"):
-                self.booked[at] = booking_of(command, policy).get("incurred", 0)
+            if BOOKS_OUTSTANDING[CODES[command.kind]]:
+                self.booked[at] = policy.outstanding
         self.policies.put(place, policy)
 
     def refusal(self) -> Refusal:
         """Returns why the bad command cannot follow, by the rules for single commands."""
         assert self.bad is not None
         command = self.records.command(self.bad)
-        if command.kind == "upgrade":
-            return Refusal("upgraded", str(self.upgrade))
-        if command.kind == "paidup" and not 0 < self.upgrade <= self.bad:
-            return Refusal("notupgraded")
+        refusal = refused_by_upgrade(command.kind, self.upgrade if self.upgrade <= self.bad else 0)
+        if refusal:
+            return refusal
         policy: Policy | None = None
         mine = self.records.places_of(command.number)
         for each in [*self.records.commands(mine[mine < self.bad]), command]:
@@ -187,7 +189,13 @@ class Replay:
         raise AssertionError(f"command {self.bad + 1} can follow")
 
 
-BOOKS = np.isin(np.arange(256), (PREMIUM, REINSTATE, SETTLE))
+def booking(is_of_line: bool) -> Array:
+    """Returns for each code of a kind whether it books the line's amount, or else what is outstanding after it."""
+    return np.array([KINDS.get(code) in BOOKINGS and BOOKINGS[KINDS[code]].is_of_line == is_of_line for code in range(256)])
+
+
+JUDGED = [CODES[kind] for kind in CHECKS]
+BOOKS_AMOUNT, BOOKS_OUTSTANDING = booking(True), booking(False)
 
 
 def stable_order(place: Array) -> Array:

@@ -1,6 +1,6 @@
 """Makes and checks seals: a few lines to keep elsewhere, which show later whether a journal's prefix and its basis are the same.
 
-The lines are CSV. The day is the latest of the prefix's postings, or empty if there is none:
+The lines are CSV. The day is the latest of the prefix's postings, or empty if none of them has a day, as an upgrade has none:
 
     seal,1,DAY ON WHICH IT WAS MADE
     position,POSITION,COMMANDS THAT THE JOURNAL HAD,DAY
@@ -82,7 +82,7 @@ def sealed_files(folder: str, bases: Sequence[str]) -> tuple[Sealed, ...]:
 
 
 def newest_of(days: Sequence[int], path: str) -> datetime.date | None:
-    """Returns the latest of the days of records, or None if there are none; nothing else of the records is judged here."""
+    """Returns the latest of these days of records, or None if there are none; nothing else of the records is judged here."""
     if not days:
         return None
     newest = EPOCH + datetime.timedelta(max(days)) if abs(max(days)) < FARTHEST else None
@@ -95,7 +95,7 @@ def seal_of(folder: str, position: int | None = None, bases: Sequence[str] = ("b
     path = os.path.join(folder, JOURNAL)
     whole = columns_at(path)
     front = whole if position is None else columns_at(path, position)
-    days = front.days()
+    days = front.dated()
     with memoryview(front.data) as data:
         found = sum_of(data[:gate_of(front.count)])
     made = datetime.datetime.now(datetime.timezone.utc).date()

@@ -6,15 +6,13 @@ import struct
 from dataclasses import dataclass
 from functools import lru_cache
 
-from life_tools.common.formats import (FIELDS, FIRST_DAY, KINDS, LAST_DAY, MOST_CENTS, MOST_NUMBER, MOST_REINSTATEMENT_CENTS,
-                                       PLANS, Wrong, money)
+from life_tools.common.formats import FIELDS, FIRST_DAY, KINDS, LAST_DAY, MOST_NUMBER, PLANS, Wrong, money
+from life_tools.rules.tables import OLDEST_AT_ISSUE, PLAN_CODES, most_cents, terms_fit
 
 BODY_SIZE = 64
-OLDEST_AT_ISSUE = 129
-LAST_AGE = 131
 CODES = {kind: code for code, kind in KINDS.items()}
-PLAN_CODES = {plan: code for code, plan in PLANS.items()}
 EPOCH = datetime.date(1970, 1, 1)
+EPOCH_ORDINAL = EPOCH.toordinal()
 
 
 @dataclass(frozen=True, slots=True)
@@ -41,7 +39,7 @@ UPGRADE = Command("upgrade")
 
 
 def number_at(day: datetime.date) -> int:
-    return (day - EPOCH).days
+    return day.toordinal() - EPOCH_ORDINAL
 
 
 def day_at(number: int) -> datetime.date:
@@ -61,7 +59,7 @@ def words_of(command: Command) -> list[str]:
 
 
 def years_fit(plan: str, age: int, years: int) -> bool:
-    return years == 0 if plan == "whole" else 2 <= years <= LAST_AGE - age
+    return bool(terms_fit(PLAN_CODES.get(plan, 0), age, years))
 
 
 def why_invalid(command: Command) -> str | None:
@@ -72,7 +70,7 @@ def why_invalid(command: Command) -> str | None:
         return f"the policy's number is {command.number}"
     if not command.day or not FIRST_DAY <= command.day <= LAST_DAY:
         return f"the day is {command.day}"
-    most = MOST_REINSTATEMENT_CENTS if command.kind == "reinstate" else MOST_CENTS
+    most = most_cents(command.kind)
     held = FIELDS[command.kind]
     if "amount" in held and not 1 <= command.amount <= most:
         return f"the amount is {money(command.amount)}"

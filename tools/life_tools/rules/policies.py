@@ -1,25 +1,22 @@
-"""Decides by the rules of policies what a command makes of a policy or why it is refused; keeps the book and the accounts.
+"""Decides by the tables of rules what a command makes of a policy or why it is refused; keeps the book and the accounts.
 
-Written from docs/reference/rules.md ("The rules") and docs/reference/script.md alone. A rule that changes is changed here and in
-`policy_columns.py`, which has the same checks over columns.
+The rules themselves stand in `tables.py`. Here each command is judged alone, which gives the reason of a refusal.
 """
 from __future__ import annotations
 
 import datetime
 from dataclasses import dataclass, replace
-from functools import lru_cache
-from typing import Iterable, Iterator, NamedTuple, Union
+from functools import cached_property, lru_cache
+from typing import Any, Callable, Iterable, Iterator, NamedTuple, Union
 
-from life_tools.rules.commands import LAST_AGE, Command
-from life_tools.common.formats import MOST_COMMANDS, Wrong, money
+from life_tools.common.formats import MOST_COMMANDS, STATUSES, Wrong, money
+from life_tools.rules import tables
+from life_tools.rules.commands import Command, day_at, number_at
+from life_tools.rules.tables import (ACCOUNTS, BOOKINGS, CHANGES, CHECKS, CODE_OF_STATUS, EARLY_DAYS, GRACE_DAYS, NEVER,
+                                     PLAN_CODES, Check, Line)
 
-# the days of grace after a premium is due, the days before the due day from which it may be paid, and the number of anniversaries
-# after the last paid one up to which a lapsed policy can be reinstated
-GRACE = datetime.timedelta(31)
-EARLY = datetime.timedelta(90)
-REINSTATEMENT_ANNIVERSARIES = 3
-
-ACCOUNTS = ("cash", "premiums", "incurred", "payable")
+GRACE = datetime.timedelta(GRACE_DAYS)
+EARLY = datetime.timedelta(EARLY_DAYS)
 Value = Union[datetime.date, int, str, None]
 
 
@@ -68,11 +65,14 @@ def completed(issued: datetime.date, on: datetime.date) -> int:
     return years if anniversary(issued, years) <= on else years - 1
 
 
+def either(truth: object, one: Any, other: Any) -> Any:
+    return one if truth else other
+
+
 @lru_cache(maxsize=None)
 def cover_of(plan: str, age: int, years: int) -> tuple[int, int]:
     """Returns the years of cover of a plan, and the number of its yearly premiums."""
-    to_end = LAST_AGE - age
-    return years if plan in ("term", "endowment") else to_end, to_end if plan == "whole" else years
+    return tables.cover_of(PLAN_CODES[plan], age, years, either)
 
 
 def years_of(policy: Policy) -> int:
@@ -89,85 +89,72 @@ def end_of(policy: Policy) -> datetime.date:
 
 def due_of(policy: Policy) -> datetime.date | None:
     """Returns the day on which the next premium is due, or None if all are paid or the policy is paid up."""
-    none = policy.status == "paidup" or policy.paid >= payments_of(policy)
-    return None if none else anniversary(policy.issued, policy.paid)
+    due = Numbers(policy).due
+    return None if due == NEVER else day_at(due)
 
 
 def missed_by(policy: Policy, day: datetime.date) -> int:
     """Returns how many unpaid premiums fell due up to and including the day."""
-    missed = 0
-    while policy.paid + missed < payments_of(policy) and anniversary(policy.issued, policy.paid + missed) <= day:
-        missed += 1
+    missed: int = tables.missed_by(Numbers(policy), number_at(day))
     return missed
 
 
-# --- the checks ---
+class Numbers:
+    """One policy as the tables of rules take it: days, plan and status are numbers."""
 
-STATUSES = {"reinstate": ("lapsed",), "settle": ("claimed", "matured"), "claim": ("inforce", "paidup"),
-            "mature": ("inforce", "paidup")}
+    either = staticmethod(either)
+
+    def __init__(self, policy: Policy) -> None:
+        self.policy, self.status, self.plan = policy, CODE_OF_STATUS[policy.status], PLAN_CODES[policy.plan]
+        self.amount, self.premium, self.paid, self.outstanding = policy.amount, policy.premium, policy.paid, policy.outstanding
+
+    @property
+    def payments(self) -> int:
+        return payments_of(self.policy)
+
+    @property
+    def last(self) -> int:
+        return number_at(self.policy.last)
+
+    @property
+    def end(self) -> int:
+        return number_at(end_of(self.policy))
+
+    @cached_property
+    def due(self) -> int:
+        due: int = tables.due_of(self)
+        return due
+
+    def anniversary(self, years: int) -> int:
+        return number_at(anniversary(self.policy.issued, years))
+
+    def years_since_issue(self, day: int) -> int:
+        return completed(self.policy.issued, day_at(day))
 
 
-def reasons(policy: Policy, command: Command) -> Iterator[tuple[bool, Refusal]]:
-    """Yields the reasons for which a command may be refused, in their order: whether the reason applies, and the refusal."""
-    kind, day = command.kind, command.on
-    due, end = due_of(policy), end_of(policy)
-    over = day >= end, Refusal("termover", end)
-    grace = due is not None and day > due + GRACE, Refusal("graceover", due)
-    yield day < policy.last, Refusal("beforelast", policy.last)
-    yield policy.status not in STATUSES.get(kind, ("inforce",)), Refusal("wrongstatus", policy.status)
-    if kind == "premium":
-        yield over
-        yield due is None, Refusal("nothingdue")
-        yield due is not None and day < due - EARLY, Refusal("tooearly", due)
-        yield grace
-        yield command.amount != policy.premium, Refusal("wrongamount", policy.premium)
-    elif kind == "alter":
-        yield over
-        yield grace
-        yield command.amount >= policy.amount, Refusal("notareduction", policy.amount)
-    elif kind == "lapse":
-        yield due is None, Refusal("nothingdue")
-        yield due is not None and day <= due + GRACE, Refusal("notinarrears", due)
-    elif kind == "reinstate":
-        limit = anniversary(policy.issued, policy.paid + REINSTATEMENT_ANNIVERSARIES)
-        total = missed_by(policy, day) * policy.premium
-        yield over
-        yield day > limit, Refusal("toolate", limit)
-        yield command.amount != total, Refusal("wrongamount", total)
-    elif kind == "claim":
-        yield over
-        yield grace
-    elif kind == "settle":
-        yield command.amount > policy.outstanding, Refusal("oversettled", policy.outstanding)
-    elif kind == "mature":
-        yield grace
-        yield day < end, Refusal("notmatured", end)
-    elif kind == "paidup":
-        yield over
-        yield due is None, Refusal("nothingdue")
-        yield grace
-        yield command.amount >= policy.amount, Refusal("notareduction", policy.amount)
+# --- decisions ---
+
+# what a refusal shows, by the kind of its value
+SHOWN: dict[str, Callable[[Any], Value]] = {"day": day_at, "status": lambda code: STATUSES[code - 1], "cents": int}
+
+
+def refusal_by(check: Check, of: Numbers, day: int) -> Refusal:
+    """Returns the refusal of a check that applies."""
+    if check.value is None:
+        return Refusal(check.reason)
+    return Refusal(check.reason, SHOWN[check.shown_as](check.value(of, day)))
 
 
 def changed(policy: Policy, command: Command) -> Policy:
     """Returns the policy after an accepted command."""
-    kind, last = command.kind, command.on
-    if kind == "premium":
-        return replace(policy, last=last, paid=policy.paid + 1)
-    if kind == "alter":
-        return replace(policy, last=last, amount=command.amount, premium=command.premium)
-    if kind == "lapse":
-        return replace(policy, last=last, status="lapsed")
-    if kind == "reinstate":
-        return replace(policy, last=last, status="inforce", paid=policy.paid + missed_by(policy, last))
-    if kind == "settle":
-        left = policy.outstanding - command.amount
-        return replace(policy, last=last, outstanding=left, status=policy.status if left else "settled")
-    if kind == "paidup":
-        return replace(policy, last=last, status="paidup", amount=command.amount)
-    if kind == "mature" and policy.plan == "term":
-        return replace(policy, last=last, status="expired")
-    return replace(policy, last=last, status="claimed" if kind == "claim" else "matured", outstanding=policy.amount)
+    return changed_by(Numbers(policy), command, number_at(command.on))
+
+
+def changed_by(of: Numbers, command: Command, day: int) -> Policy:
+    changes = CHANGES[command.kind](of, Line(day, command.amount, command.premium))
+    if "status" in changes:
+        changes["status"] = STATUSES[changes["status"] - 1]
+    return replace(of.policy, last=command.on, **changes)
 
 
 def issued(command: Command) -> Policy:
@@ -185,10 +172,18 @@ def decide(policy: Policy | None, command: Command) -> Refusal | Policy:
         return Refusal("taken") if policy else issued(command)
     if policy is None:
         return Refusal("unknown")
-    for applies, refusal in reasons(policy, command):
-        if applies:
-            return refusal
-    return changed(policy, command)
+    of, day = Numbers(policy), number_at(command.on)
+    for check in CHECKS[command.kind]:
+        if check.applies(of, day, command.amount):
+            return refusal_by(check, of, day)
+    return changed_by(of, command, day)
+
+
+def refused_by_upgrade(kind: str, upgrade: int) -> Refusal | None:
+    """Returns the refusal of a command after an upgrade at this position, or after none if it is 0, if the upgrade decides it."""
+    if kind == "upgrade" and upgrade:
+        return Refusal("upgraded", str(upgrade))
+    return Refusal("notupgraded") if kind == "paidup" and not upgrade else None
 
 
 # --- the book and the accounts ---
@@ -210,11 +205,10 @@ class Book:
 
     def judge(self, command: Command) -> Refusal | Policy | Upgraded:
         """Returns what the rules reply: it checks what depends on the upgrade, and otherwise what the policy's rules decide."""
-        if command.kind == "upgrade":
-            return Refusal("upgraded", str(self.upgrade)) if self.upgrade else Upgraded()
-        if command.kind == "paidup" and not self.upgrade:
-            return Refusal("notupgraded")
-        return decide(self.policies.get(command.number), command)
+        refusal = refused_by_upgrade(command.kind, self.upgrade)
+        if refusal:
+            return refusal
+        return Upgraded() if command.kind == "upgrade" else decide(self.policies.get(command.number), command)
 
     def decide(self, command: Command) -> Refusal | Policy | Upgraded:
         answer = self.judge(command)
@@ -240,15 +234,11 @@ class Book:
 
 def booking_of(command: Command, after: Policy | None) -> dict[str, int]:
     """Returns what an accepted command books on each account, in cents; `after` is the policy after it, if it has one."""
-    if after is None:
+    booking = BOOKINGS.get(command.kind)
+    if after is None or booking is None:
         return {}
-    if command.kind in ("premium", "reinstate"):
-        return {"cash": command.amount, "premiums": -command.amount}
-    if command.kind == "settle":
-        return {"cash": -command.amount, "payable": command.amount}
-    if command.kind == "claim" or after.status == "matured":
-        return {"incurred": after.amount, "payable": -after.amount}
-    return {}
+    cents = command.amount if booking.is_of_line else after.outstanding
+    return {booking.first: booking.sign * cents, booking.second: -booking.sign * cents} if cents else {}
 
 
 def bookings(commands: Iterable[Command]) -> Iterator[tuple[Command, dict[str, int]]]:
