@@ -2,15 +2,13 @@
 
 The functions of tests/support draw from a `random.Random`; hypothesis passes them one whose choices it can undo.
 """
-from __future__ import annotations
-
 from random import Random
 from typing import Callable, TypeVar
 
 from hypothesis import strategies as st
 
 from life_tools.rules.commands import Command
-from life_tools.rules.policies import Book
+from tests.rules.policies import Book
 from tests.support.drawn_scripts import make_book, make_script
 from tests.support.lived_books import lived_by
 

@@ -113,7 +113,7 @@ def premium_timeline() -> Picture:
     made.box(414, 170, 132, 40, "in arrears:\nonly lapse is taken", "bad")
     made.box(550, 170, 260, 40, "lapsed: reinstate pays\nall premiums that were missed", "warn")
     for place, words in ((245, "A claim for a death after the days of grace is refused (graceover, wrongstatus,lapsed). After"),
-                         (263, "the third anniversary of the unpaid due day a reinstatement is refused (toolate). The days"),
+                         (263, "the policy's anniversary three years later a reinstatement is refused (toolate). The days"),
                          (281, "shown are those of a policy issued on 2020-01-01 whose second premium is unpaid.")):
         made.text(30, place, words, sort="quiet")
     return made

@@ -7,14 +7,13 @@ The kinds policies and greatest are COUNT issues of the ids from 1 on; greatest 
 kinds are COUNT records of one policy, of which the first is its issue: alterations by one cent each; premiums, which the rules
 refuse after 131; or a claim, and settlements of one cent.
 """
-from __future__ import annotations
-
 import datetime
 import sys
 from array import array
 from typing import Any
 
-from life_tools.rules.commands import LAST_AGE, Command
+from life_tools.rules.commands import Command
+from life_tools.rules.tables import LAST_AGE
 from life_tools.common.formats import MOST_CENTS
 from life_tools.journal.file import EMPTY, FIRST_GATE, RECORD_SIZE, file_of
 

@@ -1,6 +1,4 @@
 """A real browser for tests of the window: what a person reads, types and presses, at the width of a desk and of a phone."""
-from __future__ import annotations
-
 import importlib
 import re
 import time
@@ -26,10 +24,11 @@ const found = [];
 for (const each of document.querySelectorAll('body *')) {
   const own = [...each.childNodes].some(node => node.nodeType === 3 && node.data.trim());
   if (!own || !each.getClientRects().length) continue;
+  if (each.tagName === 'title') continue;
   let ground = each;
   while (ground && getComputedStyle(ground).backgroundColor === 'rgba(0, 0, 0, 0)') ground = ground.parentElement;
-  if (each.closest('svg')) continue;
-  found.push([each.textContent.trim().slice(0, 40), getComputedStyle(each).color,
+  const style = getComputedStyle(each);
+  found.push([each.textContent.trim().slice(0, 40), each.closest('svg') ? style.fill : style.color,
               ground ? getComputedStyle(ground).backgroundColor : 'rgb(255, 255, 255)']);
 }
 return found;
@@ -41,10 +40,37 @@ return [...document.querySelectorAll('tbody td')].filter(cell => cell.textConten
   .filter(cell => !cell.closest('.list')).map(cell => cell.textContent);
 """
 
-# tables that are wider than their place, so that they scroll sideways
+# tables that are wider than their place, so that they scroll sideways, and on a narrow page lines that are
 WIDE = """
-return [...document.querySelectorAll('.table')].filter(each => each.scrollWidth > each.clientWidth + 1)
-  .map(each => each.getAttribute('aria-label'));
+const narrow = document.documentElement.clientWidth < 1000;
+return [...document.querySelectorAll(narrow ? '.table, pre' : '.table')]
+  .filter(each => each.scrollWidth > each.clientWidth + 1)
+  .map(each => each.getAttribute('aria-label') || each.textContent.slice(0, 60));
+"""
+# texts of a chart that reach out of it or lie over each other; a slanted text is not compared, because its box is larger than
+# the text
+COLLIDING = """
+const found = [];
+for (const chart of document.querySelectorAll('svg.chart, svg.picture')) {
+  const edge = chart.getBoundingClientRect();
+  const texts = [...chart.querySelectorAll('text')].filter(each => each.getClientRects().length);
+  const boxes = texts.map(each => [each.textContent, each.getBoundingClientRect(), each.hasAttribute('transform')]);
+  for (const [words, box, slanted] of boxes)
+    if (box.left < edge.left - 1 || box.right > edge.right + 1 || box.top < edge.top - 1 || box.bottom > edge.bottom + 1)
+      found.push(words + ' is cut');
+  boxes.forEach(([words, box, slanted], place) => {
+    for (const [others, other, isSlanted] of boxes.slice(place + 1))
+      if (!slanted && !isSlanted && box.left < other.right - 1 && other.left < box.right - 1 && box.top < other.bottom - 3
+          && other.top < box.bottom - 3) found.push(words + ' lies over ' + others);
+  });
+}
+return found;
+"""
+# cells of a list of few columns that a narrow page hides
+HIDDEN = """
+return [...document.querySelectorAll('.list:not(.many) tbody td, .list:not(.many) tfoot td')]
+  .filter(cell => cell.textContent.trim() && !cell.getClientRects().length && !cell.closest('details:not([open])'))
+  .map(cell => cell.dataset.head + ': ' + cell.textContent);
 """
 WAITS = ("return Boolean(window.isLeft) || document.readyState !== 'complete' || !document.querySelector('h1') || "
          "document.title.startsWith('One moment')")
@@ -56,7 +82,6 @@ return rows ? rows.map(row => [...row.cells].map(cell => cell.innerText.trim()))
 
 
 def demand(right: Any, what: str) -> None:
-    """An assertion; a test of a page makes many of them."""
     assert right, what
 
 
@@ -72,8 +97,6 @@ def contrast(one: Any, other: Any) -> Any:
 
 
 class Browser:
-    """A window of Chromium of one width."""
-
     def __init__(self, size: tuple[int, int], shots: Path, scheme: str = "light") -> None:
         options = webdriver.ChromeOptions()
         for each in OPTIONS:
@@ -108,7 +131,6 @@ class Browser:
         self.settle()
 
     def settle(self) -> None:
-        """Waits until the page has loaded."""
         ends = time.monotonic() + PATIENCE
         while self.driver.execute_script(WAITS):
             if time.monotonic() > ends:
@@ -178,12 +200,10 @@ class Browser:
             demand(each in said, f"the page {self.driver.title!r} doesn't say {each!r}: {said[:1500]}")
 
     def facts(self) -> Any:
-        """Returns the figures at the head of a page by their names."""
         names = [each.text.strip() for each in self.driver.find_elements(By.TAG_NAME, "dt")]
         return dict(zip(names, [each.text.strip() for each in self.driver.find_elements(By.TAG_NAME, "dd")]))
 
     def rows(self, caption: Any, part: str = "tbody") -> Any:
-        """Returns the cells of a table's rows, as a person reads them."""
         found = self.driver.execute_script(CELLS, caption, part)
         demand(found is not None, f"there is no table {caption!r}: {self.driver.current_url} says {self.text()[:800]}")
         return found
@@ -197,7 +217,11 @@ class Browser:
         width = driver.execute_script("return document.documentElement.scrollWidth")
         demand(width <= self.size[0], f"{name}: the page is {width} wide on {self.size[0]}")
         wide = driver.execute_script(WIDE)
-        demand(not wide, f"{name}: these tables scroll sideways: {wide}")
+        demand(not wide, f"{name}: these scroll sideways: {wide}")
+        colliding = driver.execute_script(COLLIDING)
+        demand(not colliding, f"{name}: of the charts {colliding}")
+        hidden = driver.execute_script(HIDDEN)
+        demand(not hidden, f"{name}: these cells are hidden: {hidden[:5]}")
         for words, colour, ground in driver.execute_script(COLOURS):
             demand(contrast(colour, ground) >= 4.5, f"{name}: {words!r} is hard to read: {colour} on {ground}")
         demand(len(driver.find_elements(By.TAG_NAME, "h1")) == 1, f"{name}: not one heading")

@@ -1,6 +1,4 @@
 """A cluster of Dask on the loopback address: a scheduler, and workers of one thread each, as separate processes."""
-from __future__ import annotations
-
 import json
 import os
 import subprocess
@@ -10,11 +8,17 @@ from pathlib import Path
 from typing import Callable
 
 SECONDS = 120
+# run in a process of its own, since a client of Dask leaves threads in its process
+AWAITS = """import sys
+from distributed import Client
+address, count, seconds = sys.argv[1:]
+with Client(address, timeout=int(seconds)) as client:
+    client.wait_for_workers(int(count), timeout=int(seconds))
+"""
 ENV = {"DASK_LOGGING__DISTRIBUTED": "critical", "DASK_DISTRIBUTED__COMM__TIMEOUTS__CONNECT": "10s"}
 
 
 def await_that(holds: Callable[[], bool], what: str) -> None:
-    """Waits until a condition holds, for at most SECONDS seconds."""
     until = time.monotonic() + SECONDS
     while not holds():
         assert time.monotonic() < until, what
@@ -45,10 +49,8 @@ class Cluster:
                                           "--no-dashboard", "--local-directory", str(self.folder / f"room{number}"))
 
     def await_workers(self, count: int) -> None:
-        from distributed import Client
-
-        with Client(self.address, timeout=SECONDS) as client:  # type: ignore[no-untyped-call] # Dask has no types for it
-            client.wait_for_workers(count, timeout=SECONDS)
+        subprocess.run([sys.executable, "-c", AWAITS, self.address, str(count), str(SECONDS)], check=True,
+                       env={**os.environ, **ENV}, timeout=2 * SECONDS)
 
     def kill_worker(self, number: int) -> None:
         self.workers[number].kill()

@@ -1,6 +1,4 @@
 """A clerk's desk in a test: files are handed in, and `life-tools day` is called on them."""
-from __future__ import annotations
-
 import csv
 import io
 import json
@@ -25,8 +23,6 @@ OLD = 10
 
 @dataclass
 class Desk:
-    """A folder of a book with an inbox."""
-
     folder: Folder
 
     def hand_in(self, name: str, rows: str | bytes, seconds_ago: float = OLD) -> Path:
@@ -42,7 +38,6 @@ class Desk:
         return ended
 
     def log(self, *words: str, status: int = 0) -> list[dict[str, str]]:
-        """Returns the rows that `log` prints."""
         return list(csv.DictReader(io.StringIO(self.folder.printed("log", *words, status=status))))
 
     @property
@@ -50,7 +45,6 @@ class Desk:
         return sorted(os.listdir(self.folder.path / "inbox"))
 
     def entry(self, number: int) -> dict[str, Any]:
-        """Returns the `entry.json` of an entry."""
         found: dict[str, Any] = json.loads((self.entry_folder(number) / "entry.json").read_text())
         return found
 

@@ -14,10 +14,10 @@ from typing import Any
 from life_tools.rules.commands import UPGRADE, Command, words_of
 from life_tools.common.formats import FIRST_DAY, LAST_DAY, money
 from life_tools.reserves.exact import Known, worth
-from life_tools.rules.policies import (EARLY, GRACE, REINSTATEMENT_ANNIVERSARIES, Book, Policy,
-                                       Refusal, anniversary, end_of, missed_by)
+from life_tools.rules import policies
 from life_tools.scripts.lines import Line, lanes_of, lines_in
 from life_tools.tables.basis import BasisRow
+from tests.rules.policies import EARLY, GRACE, Book, Policy, Refusal
 
 BASIS = "2000-01-01,q.xml,0\n2010-01-01,m.xml,300\n2015-01-01,g.xml,400\n2018-01-01,select.xml,250\n"
 # a table of the ages 20 to 25, by which a death is likelier than survival at age 22
@@ -40,9 +40,9 @@ def make_issue(draw: random.Random, number: int) -> Command:
 
 def days_near(draw: random.Random, policy: Policy) -> datetime.date:
     """Returns a day near one of those days by which the policy's commands are judged."""
-    due = anniversary(policy.issued, policy.paid)
-    near = [due, due - EARLY, due + GRACE, anniversary(policy.issued, policy.paid + REINSTATEMENT_ANNIVERSARIES),
-            end_of(policy), policy.last, policy.last + draw.randrange(60) * DAY]
+    due = policy.due_day(policy.paid)
+    near = [due, due - EARLY, due + GRACE, policy.reinstatement_end, policy.end, policy.last,
+            policy.last + draw.randrange(60) * DAY]
     day = draw.choice(near) + draw.choice([-1, 0, 0, 1]) * DAY
     return min(max(day, FIRST_DAY), LAST_DAY)
 
@@ -71,7 +71,7 @@ def make_command(draw: random.Random, book: Book, number: int) -> Command:
         amount = max(policy.amount * 2 // 3, 1) if draw.random() < 0.8 else policy.amount
         premium = draw.randrange(1, 10**5) if kind == "alter" else 0
     elif kind == "reinstate":
-        amount = max(missed_by(policy, day) * policy.premium + off, 1)
+        amount = max(policy.missed(day) * policy.premium + off, 1)
     elif kind == "settle":
         amount = max(draw.choice([policy.outstanding, policy.outstanding // 2]) + off, 1)
     return Command(kind, number, day, amount=amount, premium=premium)
@@ -79,7 +79,7 @@ def make_command(draw: random.Random, book: Book, number: int) -> Command:
 
 def next_premium(draw: random.Random, policy: Policy, number: int) -> Command:
     """Returns the next premium, on a day that the rules accept if there is one."""
-    due = anniversary(policy.issued, policy.paid)
+    due = policy.due_day(policy.paid)
     day = max(due - draw.randrange(60) * DAY, policy.last)
     return Command("premium", number, min(day, LAST_DAY), amount=policy.premium)
 
@@ -141,6 +141,11 @@ def make_script(draw: random.Random, book: Book, sizes: range = range(50, 301)) 
     return "\n".join(rows) + "\n"
 
 
+def for_tools(policy: Policy) -> policies.Policy:
+    """Returns a policy as the tools' reserves take it."""
+    return policies.Policy(**vars(policy))
+
+
 class Office:
     """Runs a script: the lanes take turns at random, and the lines stand in the order of their first turns."""
 
@@ -194,12 +199,12 @@ class Office:
         self.premiums += command.amount if command.kind in ("premium", "reinstate") else 0
 
     def show(self, line: Line, position: int) -> None:
-        policies = Book(self.book.commands[:position]).policies
-        self.lines.append(",".join([*line.head, str(position), str(len(policies))]))
+        book = Book(self.book.commands[:position])
+        self.lines.append(",".join([*line.head, str(position), str(len(book.policies))]))
         sums, words = [0, 0], 0
-        for number, policy in policies.items():
+        for number, policy in book.policies.items():
             assert line.day
-            year, exact = worth(policy, self.basis, line.day, self.known)
+            year, exact = worth(for_tools(policy), self.basis, line.day, self.known)
             head = f"row,{number},{policy.status},{year}"
             if isinstance(exact, str):
                 words += 1

@@ -49,7 +49,6 @@ def called(*words: str) -> str:
 
 
 def make(image: Path, system: System) -> None:
-    """Makes an empty file system in a new file."""
     need(system.maker[0])
     with open(image, "wb") as file:
         file.truncate(system.mebibytes * MEBIBYTE)
@@ -116,14 +115,12 @@ class Medium:
         self.copies = 0
 
     def fail(self) -> None:
-        """Makes each write to the medium fail from now on."""
         called("chattr", "+i", str(self.image))
 
     def heal(self) -> None:
         called("chattr", "-i", str(self.image))
 
     def copy(self) -> Path:
-        """Copies the medium as it is now, and returns the copy's path."""
         self.copies += 1
         to = self.holder / f"copy-{self.copies}"
         called("cp", "--sparse=always", str(self.image), str(to))

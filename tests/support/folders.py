@@ -1,12 +1,16 @@
 """A folder of a book in a test: its files, runs of the program and the tools in it, and checks of what a refusal leaves."""
 from __future__ import annotations
 
+import fcntl
 import os
 import re
+import shlex
 import shutil
 import subprocess
+from contextlib import contextmanager
 from dataclasses import dataclass
 from pathlib import Path
+from typing import BinaryIO, Iterator
 
 from tests.support.program import ROOT, Program
 from tests.support.tools import Ended, run_tool
@@ -39,17 +43,14 @@ class Folder:
         return (self.path / name).read_text(encoding="utf-8")
 
     def take(self, *names: str) -> None:
-        """Copies these files of examples/ to this folder."""
         for name in names:
             shutil.copy(EXAMPLES / name, self.path / name)
 
     def below(self, name: str) -> Folder:
-        """Returns a folder in this one, which is made if there is none."""
         (self.path / name).mkdir(exist_ok=True)
         return Folder(self.path / name, self.program)
 
     def life(self, *words: str, given: str | bytes = b"") -> Ended:
-        """Runs the program with these arguments and this standard input."""
         given = given.encode() if isinstance(given, str) else given
         ran = subprocess.run([*self.program.words, *words], cwd=self.path, input=given, capture_output=True, check=False)
         return Ended(ran.returncode, ran.stdout.decode("ascii", "replace"), ran.stderr.decode("utf-8", "replace"))
@@ -66,6 +67,25 @@ class Folder:
         ran = self.life("run", given=script)
         assert ran.status == 0, ran
         return ran.out
+
+    def stand_in(self, text: str) -> Path:
+        """Writes a shell script that stands in for the program, which the script can call as $life."""
+        script = self.write("stand-in", f"#!/bin/sh\nlife={shlex.quote(str(self.program.path))}\n{text}\n")
+        script.chmod(0o755)
+        return script
+
+    def damage(self, record: int, value: int = 0) -> None:
+        """Sets the commit byte of a record, counted from 0."""
+        with open(self.journal, "r+b") as file:
+            file.seek(17 + 65 * record)
+            file.write(bytes([value]))
+
+    @contextmanager
+    def in_use(self) -> Iterator[BinaryIO]:
+        """Locks the journal, as a run does."""
+        with open(self.journal, "rb") as file:
+            fcntl.flock(file, fcntl.LOCK_EX)
+            yield file
 
     def tools(self, *words: str, given: str | bytes = b"", program: Path | None = None) -> Ended:
         """Runs a command of life-tools with its arguments, over the program under test or over another one."""

@@ -1,6 +1,4 @@
 """Writes journals that are full, or nearly full, without code of the tools."""
-from __future__ import annotations
-
 import datetime
 import os
 from pathlib import Path
@@ -18,14 +16,12 @@ def days_of(day: datetime.date) -> bytes:
 
 
 def records(kind: bytes, numbers: list[bytes], day: datetime.date, amount: int, premium: int) -> bytes:
-    """Returns one record for each number, all of the same day."""
     front = b"\x01" + kind
     rest = days_of(day) + amount.to_bytes(8, "big") + premium.to_bytes(8, "big") + bytes(36)
     return b"".join(front + number + rest for number in numbers)
 
 
 def fill(out: Path, today: datetime.date) -> None:
-    """Fills a nearly full journal with issues of one day."""
     with open(out, "r+b") as file:
         count = (file.seek(0, os.SEEK_END) - len(HEADER)) // RECORD
         file.seek(len(HEADER) + count * RECORD)

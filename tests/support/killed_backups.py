@@ -3,8 +3,6 @@
 A backup is a process that is forked off the test. It is killed after a drawn time, or before a drawn system call; the run is
 killed after a drawn time, or ends by itself.
 """
-from __future__ import annotations
-
 import contextlib
 import os
 import random
@@ -45,7 +43,6 @@ class Trial:
     books: int = 0
 
     def begin(self) -> None:
-        """Begins a new book of one policy, which has no copy yet."""
         self.books, self.number, self.copied = self.books + 1, 0, 0
         self.book = self.top.below(f"book-{self.books}")
         self.book.write("basis.csv", "1900-01-01,q.xml,0\n")
@@ -57,7 +54,6 @@ class Trial:
         return self.top.path / f"copy-{self.books}"
 
     def rows(self, many: int) -> str:
-        """Returns this number of issues of new policies."""
         self.number += many
         return "".join(f"1,issue,{number},2020-01-01,whole,30,0,1000.00,20.00\n"
                        for number in range(self.number - many + 1, self.number + 1))

@@ -5,8 +5,6 @@ killed after a drawn time, or before a drawn system call (a file opened, renamed
 started), with the program or without it; or only the program is killed; or `day` is sent TERM. A second `day` may run at the same
 time, and files may arrive.
 """
-from __future__ import annotations
-
 import contextlib
 import hashlib
 import json
@@ -51,7 +49,7 @@ def kill_before(calls: int, kill: Callable[[], None]) -> None:
         fsync(handle)
 
     sys.addaudithook(hook)
-    os.fsync = heard_fsync  # type: ignore[assignment]
+    setattr(os, "fsync", heard_fsync)
 
 
 def start_day(desk: Desk, name: str, way: str, calls: int, words: Sequence[str] = ()) -> int:

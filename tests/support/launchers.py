@@ -1,7 +1,5 @@
 """The launcher of a clone as somebody runs it: next to other launchers, on a terminal, with a book in use, or stopped by
 Ctrl-C."""
-from __future__ import annotations
-
 import fcntl
 import os
 import pty
@@ -23,7 +21,6 @@ EXAMPLE = ROOT / "examples" / "first-issues"
 
 
 def issue(number: int) -> str:
-    """Returns a line of a script that issues a policy of this number."""
     return f"1,issue,{number},2020-01-01,endowment,0,3,1000.00,400.00\n"
 
 
@@ -48,7 +45,6 @@ class Begun:
         return text in self.err.read_text(encoding="utf-8")
 
     def type(self, text: str) -> None:
-        """Writes the whole standard input of the command, and closes it."""
         assert self.process.stdin
         with suppress(BrokenPipeError):
             self.process.stdin.write(text.encode())

@@ -11,7 +11,7 @@ from typing import NamedTuple
 
 from life_tools.rules.commands import UPGRADE, Command
 from life_tools.journal.file import file_of
-from life_tools.rules.policies import Policy, decide, due_of, end_of, missed_by, payments_of
+from tests.rules.policies import Policy, decide
 
 LEAP_YEARS = (2000, 2004, 2008, 2012, 2016, 2020)
 BEFALLS = ("claim", "lapse", "lapse", "paidup", "alter", "stop")
@@ -40,19 +40,19 @@ def drawn_issue(draw: random.Random, number: int, times: Times = Times()) -> Com
 
 def following(draw: random.Random, policy: Policy, times: Times) -> Command | None:
     """Draws the next command on a policy, if any; the caller keeps it if the rules accept it."""
-    number, due = policy.number, due_of(policy)
+    number, due = policy.number, policy.due
     if policy.status in ("claimed", "matured"):
         day = policy.last + datetime.timedelta(draw.randrange(60))
         return Command("settle", number, day, amount=draw.choice((policy.outstanding, (policy.outstanding + 1) // 2)))
     if policy.status == "lapsed":
         day = policy.last + datetime.timedelta(draw.randrange(1200))
-        missed = missed_by(policy, day) * policy.premium
+        missed = policy.missed(day) * policy.premium
         return Command("reinstate", number, day, amount=missed) if missed and draw.random() < 0.5 else None
     if due is not None and policy.status == "inforce" and draw.randrange(100) < times.go_on:
         day = max(policy.last, due + datetime.timedelta(draw.randint(-40, 31)))
         return Command("premium", number, day, amount=policy.premium)
     if draw.random() < 0.3 or due is None:
-        return Command("mature", number, end_of(policy) + datetime.timedelta(draw.randrange(20)))
+        return Command("mature", number, policy.end + datetime.timedelta(draw.randrange(20)))
     day = max(policy.last, due + datetime.timedelta(draw.randint(-200, 31)))
     return {
         "claim": Command("claim", number, day),
@@ -66,7 +66,7 @@ def life_of(draw: random.Random, issue: Command, times: Times = Times()) -> list
     policy = decide(None, issue)
     assert isinstance(policy, Policy)
     commands = [issue]
-    for _ in range(payments_of(policy) + 8):
+    for _ in range(policy.premiums + 8):
         tried = following(draw, policy, times)
         if tried is None:
             break

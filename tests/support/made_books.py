@@ -1,6 +1,4 @@
 """Makes books and tables for special purposes: drawn books, a grid of ages, premiums around a net premium, select tables."""
-from __future__ import annotations
-
 import datetime
 import random
 from collections.abc import Iterator
@@ -8,8 +6,9 @@ from collections.abc import Iterator
 from life_tools.common.formats import day_in, money
 from life_tools.journal.file import file_of
 from life_tools.reserves.exact import Known, insured_on
-from life_tools.rules.commands import OLDEST_AT_ISSUE, Command, years_fit
+from life_tools.rules.commands import Command, years_fit
 from life_tools.rules.policies import Policy
+from life_tools.rules.tables import OLDEST_AT_ISSUE
 from life_tools.tables.basis import BasisRow
 from tests.support.drawn_scripts import BASIS, MIDDLE, make_book, make_script
 from tests.support.folders import Folder

@@ -1,6 +1,4 @@
 """Checks for what a test needs and a machine may lack. On a desk such a test is skipped; if CI is set, it fails."""
-from __future__ import annotations
-
 import importlib.util
 import os
 import shutil

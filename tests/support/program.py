@@ -1,6 +1,4 @@
 """The program under test: the one that LIFE_PROGRAM names, otherwise the proved one, otherwise a preview, which is unproved."""
-from __future__ import annotations
-
 import os
 from dataclasses import dataclass
 from pathlib import Path

@@ -7,6 +7,7 @@ import os
 import signal
 import sys
 import tempfile
+import threading
 import traceback
 from contextlib import suppress
 from dataclasses import dataclass
@@ -81,6 +82,13 @@ def in_child(words: Sequence[str], folder: Path, env: Mapping[str, str], files: 
         os._exit(status)
 
 
+def demand_no_thread() -> None:
+    """Asserts that this process has one thread: a forked child has no other one, and waits for ever for a lock that another
+    thread held, or for the work of a pool whose threads are missing."""
+    others = [each.name for each in threading.enumerate() if each is not threading.main_thread()]
+    assert not others, f"a test left these threads in this process, from which no tool can be forked: {', '.join(others)}"
+
+
 def text_of(file: IO[bytes]) -> str:
     file.seek(0)
     return file.read().decode("utf-8", "replace")
@@ -88,6 +96,7 @@ def text_of(file: IO[bytes]) -> str:
 
 def run_tool(words: Sequence[str], folder: Path, env: Mapping[str, str], given: bytes = b"") -> Ended:
     """Runs a command of life-tools with its arguments in a folder."""
+    demand_no_thread()
     read_modules(words[0] if words else "")
     with tempfile.TemporaryFile() as stdin, tempfile.TemporaryFile() as out, tempfile.TemporaryFile() as err:
         stdin.write(given)

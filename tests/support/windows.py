@@ -37,15 +37,12 @@ def installed(folder: Path, program: Program) -> Path:
 
 @dataclass
 class Answer:
-    """A reply of a window: the status, the headers and the body."""
-
     status: int
     headers: Mapping[str, str]
     body: bytes
 
     @property
     def text(self) -> str:
-        """The text that a person reads on the page."""
         page = self.body.decode("utf-8")
         page = re.sub(r"<(style|script|title)\b.*?</\1>", " ", page, flags=re.S)
         return " ".join(html.unescape(re.sub("<[^>]*>", " ", page)).split())
@@ -59,7 +56,6 @@ class Answer:
         return [html.unescape(each) for each in re.findall(r'<a [^>]*?href="([^"]*)"', self.page)]
 
     def rows(self, caption: str, part: str = "tbody") -> list[list[str]]:
-        """Returns the cells of a table's rows, as a person reads them."""
         for table in re.findall(r"<table>.*?</table>", self.page, re.S):
             named = re.search(r"<caption[^>]*>(.*?)</caption>", table, re.S)
             if named and html.unescape(named[1]).strip() == caption:
@@ -70,9 +66,8 @@ class Answer:
         raise AssertionError(f"there is no table {caption!r}: {self.text[:500]}")
 
     def marks(self, label: str) -> list[str]:
-        """Returns the texts of the marks in the chart with this label."""
         for chart in re.findall(r'<svg class="chart".*?</svg>', self.page, re.S):
-            if html.unescape(re.search('aria-label="([^"]*)"', chart)[1]).startswith(label):  # type: ignore[index]
+            if html.unescape(re.findall('aria-label="([^"]*)"', chart)[0]).startswith(label):
                 return [html.unescape(each) for each in re.findall("<title>(.*?)</title>", chart)]
         raise AssertionError(f"there is no chart {label!r}")
 
@@ -125,7 +120,6 @@ class Window:
         return answer
 
     def ask(self, path: str, **headers: str) -> Answer:
-        """Sends one request, without following redirections."""
         line = http.client.HTTPConnection("127.0.0.1", self.port, timeout=PATIENCE)
         try:
             line.request("GET", path, headers={**({"Cookie": self.cookie} if self.cookie else {}), **headers})
@@ -135,7 +129,6 @@ class Window:
             line.close()
 
     def get(self, path: str) -> Answer:
-        """Returns a page once it is there, following each redirection."""
         path = path if path.startswith(self.root) else self.root + path
         ends = time.monotonic() + PATIENCE
         answer = self.ask(path)
@@ -149,7 +142,6 @@ class Window:
         return answer
 
     def page(self, path: str) -> Answer:
-        """Returns a page, and asserts that its status is 200."""
         answer = self.get(path)
         assert answer.status == 200, f"{path}: {answer.status}: {answer.text[:1500]} {self.err.read_text()[-1500:]}"
         return answer
