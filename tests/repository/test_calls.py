@@ -1,7 +1,5 @@
 """Tests that nothing is proved that doesn't run: `main` reaches each public function of the program, or it is listed below
 with the reason."""
-from __future__ import annotations
-
 import pytest
 
 from tests.language.calls import reached_and_not

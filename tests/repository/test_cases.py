@@ -4,8 +4,6 @@ reported.
 A hypothesis that nothing builds is put into worked cases and their contracts, one at a time and in memory, and must be reported
 with the name of its case. Hypotheses that are met, or that are plain data, must not be reported.
 """
-from __future__ import annotations
-
 from pathlib import Path
 
 import pytest

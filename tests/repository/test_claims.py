@@ -1,7 +1,5 @@
 """Tests that what pages quote is in the code: the theorem's clauses, the limits, and the names of the scripts that measure a
 figure again."""
-from __future__ import annotations
-
 import re
 from pathlib import Path
 
@@ -87,19 +85,18 @@ def test_no_page_has_another_limit_of_a_script_or_a_file(page: str) -> None:
 
 def test_what_takes_a_figure_again_is_there() -> None:
     text = FIGURES.read_text(encoding="utf-8")
-    taken = set(re.findall(r"`figures\.sh ([a-z]+)`", text))
+    taken = set(re.findall(r"`figures\.py ([a-z]+)`", text))
     known = {name for file in (ROOT / "bench").glob("figures_*.py")
-             for line in re.findall(r"^FIGURES = \{(.*)\}$", file.read_text(encoding="utf-8"), re.M)
-             for name in re.findall(r'"(\w+)":', line)}
+             for name in re.findall(r"^@figure\ndef (\w+)\(", file.read_text(encoding="utf-8"), re.M)}
     scripts = set(re.findall(r"`((?:measure|worst|plain|figures)_?\w*\.\w+)", text))
-    assert taken and taken <= known, taken - known
+    assert taken == known, taken ^ known
     assert scripts and [name for name in scripts if not (ROOT / "bench" / name).exists()] == []
 
 
 def test_each_script_of_bench_takes_a_figure_of_the_page() -> None:
     """A script that doesn't measure a figure itself must be a part of one that does."""
     text = FIGURES.read_text(encoding="utf-8")
-    shared = {"common.sh", "timing.py", "workload.py", "loopback.sh", "workers.py"}
+    shared = {"timing.py", "workload.py"}
     alone = [file for file in (ROOT / "bench").iterdir() if file.is_file() and not file.name.startswith(("figures", "plain_"))
              and file.name not in shared and f"{file.stem}." not in text]
     assert alone == []

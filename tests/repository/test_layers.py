@@ -1,7 +1,5 @@
 """Tests that the crates stand in layers: each crate stands only on crates above its own heading in crates.txt, and on no
 library that it doesn't use."""
-from __future__ import annotations
-
 import re
 from pathlib import Path
 
@@ -52,6 +50,20 @@ def is_used(crate: str, library: str) -> bool:
     return any(said.search(file.read_text(encoding="utf-8")) for file in files)
 
 
+def for_contracts_alone(crate: str) -> list[str]:
+    """Returns the libraries of the crate that only contracts, definitions and proofs name."""
+    lines = (line for source in sources_of(crate) for line in source.file.read_text(encoding="utf-8").splitlines())
+    code = "\n".join(line for line in lines if not line.lstrip().startswith("//"))
+    return [library for library in libraries()[crate] if is_used(crate, library) and not re.search(rf"\b{library}::", code)]
+
+
+def marked() -> dict[str, list[str]]:
+    """Returns the libraries that the comments of crates.txt mark as cited by contracts alone, by crate."""
+    text = (ROOT / "crates.txt").read_text(encoding="utf-8")
+    found = re.findall(r"^(\w+)[^:#\n]*:[^#\n]*# for contracts alone: (.*)$", text, re.M)
+    return {crate: names.split() for crate, names in found}
+
+
 def test_each_crate_stands_only_on_crates_above_its_heading() -> None:
     assert below_or_beside(layers()) == []
 
@@ -63,6 +75,10 @@ def test_a_crate_on_one_beside_it_is_told() -> None:
 @pytest.mark.parametrize("crate", libraries())
 def test_each_library_of_a_crate_is_used(crate: str) -> None:
     assert [library for library in libraries()[crate] if not is_used(crate, library)] == UNNAMED.get(crate, [])
+
+
+def test_the_libraries_that_contracts_alone_name_are_marked() -> None:
+    assert marked() == {crate: names for crate in libraries() if (names := for_contracts_alone(crate))}
 
 
 def test_a_superfluous_library_is_told() -> None:

@@ -1,109 +1,138 @@
-"""Tests that a waiting caller is woken, in all interleavings of a model, and that the model is that of the present functions.
+"""Tests that who waits is woken, in all interleavings of the functions of the lock and of the writer's bell.
 
-No contract states that a wake or a ring arrives. Two searches show it for models of the atomic accesses, and find a planted fault
-in each model. modelled.txt has the bodies of the modelled functions, token by token: whoever changes one of them checks whether
-the model still describes it, and then writes the list anew with `python3 -m tests.repository.test_models`.
+No contract states that a wake or a ring arrives. The searches run the functions as their files have them, so that a change of one
+of them is searched, too; and each planted change must be found.
 """
-from __future__ import annotations
-
-from pathlib import Path
+import functools
 
 import pytest
 
-from tests.language.source import CRATES, parsed, source_of
-from tests.language.tokens import code_of, tokens_of
+from tests.language.source import CRATES, ROOT
 from tests.repository import bell_of_the_writer as bell
 from tests.repository import turns_of_the_lock as turns
+from tests.repository.interleavings import Program, Search, name_of, sources_of
 
-LIST = Path(__file__).with_name("modelled.txt")
-# each file, and its functions that are modelled; an empty list means all
-MODELLED: dict[str, list[str]] = {
-    "turn_lock/src/queues.rt": [], "turn_lock/src/entering.rt": [], "turn_lock/src/steps.rt": ["take", "give"],
-    "turn_lock/src/turnstile.rt": ["turn", "serve"],
-    "lane_runner/src/bell.rt": [], "lane_runner/src/merging.rt": ["wait_for_next", "look", "have_next"],
-    "lane_runner/src/answering.rt": ["answer_lane", "hand_over"], "moment_ring/src/inlet.rt": ["next"],
+QUEUES, ENTERING, STEPS, TURNSTILE = (f"turn_lock/src/{name}.rt" for name in ("queues", "entering", "steps", "turnstile"))
+BELL, MERGING, ANSWERING = (f"lane_runner/src/{name}.rt" for name in ("bell", "merging", "answering"))
+INLET = "moment_ring/src/inlet.rt"
+OTHER, BRIEF, LIGHT = turns.Caller(), turns.Caller(is_brief=True), turns.Caller(is_light=True)
+# this many consecutive turns may pass the first brief caller and the first other one; three callers don't reach the lock's limits
+KEPT, MIXED, FREE = (8, 8), (16, 16), (40, 64)
+LOCKS: dict[str, tuple[tuple[turns.Caller, ...], tuple[int, int]]] = {
+    "others alone": ((OTHER, OTHER, OTHER), KEPT),
+    "one brief": ((BRIEF, OTHER, OTHER), MIXED),
+    "two brief": ((BRIEF, BRIEF, OTHER), FREE),
+    "one again and again": ((OTHER._replace(turns=3), OTHER), KEPT),
+    "one again and again, and one brief": ((OTHER._replace(turns=3), BRIEF), KEPT),
+    "light turns": ((LIGHT._replace(turns=4), OTHER), (2, 2)),
+}
+LANES = {"one lane": (4,), "two lanes": (3, 2), "three lanes": (1, 1, 1)}
+SCENARIOS = (*LOCKS, *LANES)
+# what is searched: all functions of a file, or these
+SEARCHED: dict[str, tuple[str, ...]] = {
+    QUEUES: (), ENTERING: (), STEPS: ("take", "give"), TURNSTILE: ("Turnstile::turn", "serve"), BELL: (),
+    MERGING: ("merge", "merge_next", "wait_for_next", "look", "have_next", "nearest"), ANSWERING: ("answer_lane", "hand_over"),
+    INLET: (),
+}
+IN_WORDS = {5: "five", 8: "eight"}
+GIVE = "    give::<T, Brand, C>(board, place, kept, next.word(), &asked, caller, &answer);\n"
+RING = "        self.queues.ring(next);\n"
+TELL = "    outlet.ring.push_reserved(told);\n    bell.ring();\n"
+LIE, SLEEP = "        let asleep = bell.lie_down();\n", "        bell.sleep(rt, asleep);\n"
+PLANTED: dict[str, tuple[str, list[tuple[str, str, str]]]] = {
+    "no ring after a free give": ("others alone", [(QUEUES, "            self.bell(number).ring();\n", "")]),
+    "no ring after a give to one that waits": ("others alone", [(QUEUES, "self.others.bell(number).ring(),", "(),")]),
+    "no ring at all": ("others alone", [(TURNSTILE, RING, "")]),
+    "the ring before the give": ("others alone", [(TURNSTILE, RING, ""), (TURNSTILE, GIVE, "queues.ring(next);" + GIVE)]),
+    "a look at who waits before the give": ("one brief", [
+        (TURNSTILE, RING, ""),
+        (TURNSTILE, GIVE, "let early = queues.others.is_waited_in() || queues.brief.is_waited_in();" + GIVE
+         + "if early { queues.ring(next); }"),
+    ]),
+    "a look at the lock before the bell is odd": ("others alone", [(ENTERING, LIE, ""), (ENTERING, SLEEP, LIE + SLEEP)]),
+    "a bell that stays even": ("others alone", [(QUEUES, "let asleep = rung | 1;", "let asleep = rung;")]),
+    "a ring that wakes nobody": ("others alone", [(QUEUES, "            self.rung.wake_all();\n", "")]),
+    "a brief caller is woken in place of another": ("others alone", [
+        (QUEUES, "self.others.wake_first();", "self.brief.wake_first();")]),
+    "one who took the free lock isn't let in": ("others alone", [(ENTERING, "        queue.let_first_in();\n", "")]),
+    "a free give where a queue is due": ("one again and again", [(QUEUES, "        weight >= self.most", "        false")]),
+    "turns that aren't counted": ("one again and again, and one brief", [(QUEUES, "before.saturating_add(turn)", "before")]),
+    "light turns that weigh nothing": ("light turns", [(QUEUES, "const LIGHT: u64 = 1;", "const LIGHT: u64 = 0;")]),
+    "a lock that is taken twice": ("others alone", [(STEPS, "LOCK, word, TAKEN) == word", "LOCK, word, TAKEN) != TAKEN")]),
+    "no ring after a line": ("one lane", [(ANSWERING, "    bell.ring();\n", "")]),
+    "the ring before its line": ("one lane", [(ANSWERING, TELL, "bell.ring(); outlet.ring.push_reserved(told);")]),
+    "a ring held back for the next line, which doesn't come": ("one lane", [
+        (ANSWERING, TELL, "let turn = told.turn; outlet.ring.push_reserved(told); if turn % 2 == 1 { bell.ring(); }")]),
+    "no look after the naming": ("one lane", [
+        (BELL, "named.store(self.missing, SeqCst);", "named.store(self.missing, SeqCst); named.park(rt, self.missing);")]),
+    "the first lane is named in place of the missing one": ("two lanes", [
+        (BELL, "self.missing = (place as u64).saturating_add(1);", "self.missing = 1;")]),
+    "a writer that never sleeps": ("one lane", [(MERGING, "        sleeper.rest(rt);\n", "")]),
+    "a moment that is heard and left": ("one lane", [(INLET, "                return moment;\n", "")]),
 }
 
 
-def modelled_in(file: str, text: str) -> list[str]:
-    """Returns the modelled functions and the constants of a file, each as a line."""
-    source = parsed(file.split("/")[0], CRATES / file, text)
-    names = MODELLED[file]
-    lines = [f"{file} {' '.join(token.text for token in one.tokens)}" for one in source.named
-             if one.kind == "const"]
-    return lines + [f"{file} fn {one.owner}{'::' if one.owner else ''}{one.name} {{ {' '.join(t.text for t in one.body)} }}"
-                    for one in source.functions
-                    if not names or one.name in names]
+def texts_of(files: tuple[str, ...]) -> dict[str, str]:
+    return {file: (CRATES / file).read_text(encoding="utf-8") for file in files}
 
 
-def modelled() -> list[str]:
-    return [line for file in MODELLED for line in modelled_in(file, (CRATES / file).read_text(encoding="utf-8"))]
+def search_of(scenario: str, changes: list[tuple[str, str, str]] = []) -> Search:
+    """Returns the search of a scenario; each old text stands once in its file, and the new one takes its place."""
+    texts = texts_of(turns.FILES if scenario in LOCKS else bell.FILES)
+    for file, old, new in changes:
+        assert texts[file].count(old) == 1, old
+        texts[file] = texts[file].replace(old, new)
+    return turns.Lock(texts, *LOCKS[scenario]) if scenario in LOCKS else bell.Writer(texts, LANES[scenario])
 
 
-def differing(now: list[str]) -> list[str]:
-    known = LIST.read_text(encoding="utf-8").splitlines()
-    return [f"- {line}" for line in known if line not in now] + [f"+ {line}" for line in now if line not in known]
+@functools.cache
+def searched(scenario: str) -> tuple[int, str, frozenset[str]]:
+    """Returns how many states the search of a scenario reaches, what is wrong with one of them, and which functions it ran."""
+    search = search_of(scenario)
+    states, wrong = search.run()
+    return states, wrong, frozenset(search.ran)
 
 
-def test_the_functions_are_those_that_were_modelled() -> None:
-    assert differing(modelled()) == []
+@pytest.mark.parametrize("scenario", SCENARIOS)
+def test_who_waits_is_woken(scenario: str) -> None:
+    states, wrong, _ = searched(scenario)
+    assert wrong == "" and states > 500
 
 
-@pytest.mark.parametrize("file, old, new", [
-    ("turn_lock/src/queues.rt", "MOST_BEFORE_BRIEF: u64 = 5 * HEAVY", "MOST_BEFORE_BRIEF: u64 = 500 * HEAVY"),
-    ("turn_lock/src/queues.rt", "self.others.wake_first();", "self.brief.wake_first();"),
-    ("turn_lock/src/queues.rt", "let asleep = rung | 1;", "let asleep = rung;"),
-    ("turn_lock/src/entering.rt", "queue.let_first_in();", ""),
-    ("turn_lock/src/entering.rt", "let asleep = bell.lie_down();\n        let found", "let found"),
-    ("turn_lock/src/turnstile.rt", "self.queues.ring(next);", ""),
-    ("lane_runner/src/merging.rt", "sleeper.rest(rt);", ""),
+def test_each_function_is_searched() -> None:
+    ran = frozenset().union(*(searched(scenario)[2] for scenario in SCENARIOS))
+    for file, text in texts_of(tuple(SEARCHED)).items():
+        names = SEARCHED[file] or tuple(name_of(one) for source in sources_of({file: text}) for one in source.functions)
+        assert names and set(names) - ran == set(), file
+
+
+@pytest.mark.parametrize("planted", PLANTED)
+def test_a_planted_change_is_found(planted: str) -> None:
+    assert search_of(*PLANTED[planted]).run()[1]
+
+
+def test_the_limits_are_those_of_the_page() -> None:
+    """The search shows that a limit is kept, whatever it is."""
+    numbers = Program(texts_of((QUEUES, BELL)), {}, {}).numbers
+    brief, others = (IN_WORDS[numbers[name] // numbers["HEAVY"]] for name in ("MOST_BEFORE_BRIEF", "MOST_BEFORE_OTHERS"))
+    page = " ".join((ROOT / "docs/explanation/concurrency.md").read_text(encoding="utf-8").split())
+    assert f"after {brief} turns for a valuation's brief read, after {others} turns for anybody" in page
+    assert (numbers["LIGHT"], numbers["HEAVY"], numbers["NAP_MILLISECONDS"]) == (1, 8, 1)
+
+
+@pytest.mark.parametrize("body, value", [
+    ("number % (1 << 3) * 2 + 2", 4), ("if number > 8 && number - 8 == 1 { 1 } else { 2 }", 1), ("number / 2 - 1", 3),
+    ("let Some(found) = Some(number) else { return 1; }; found", 9),
+    ("match Kind::Of(number) { Kind::No => 1, Kind::Of(one) => one }", 9),
+    ("for one in [3, 4] { if one == number - 5 { return one; } } 0", 4),
+    ("let mut a = Pair { one: number }; a.one += 1; a.one", 10),
 ])
-def test_a_changed_function_is_told(file: str, old: str, new: str) -> None:
-    text = (CRATES / file).read_text(encoding="utf-8")
-    assert text.count(old) >= 1
-    assert [line for line in modelled_in(file, text.replace(old, new, 1)) if line not in modelled()]
+def test_a_function_is_run_as_it_stands(body: str, value: int) -> None:
+    text = f"fn tried(number: u64) -> u64 {{ {body} }}"
+    assert Program({"turn_lock/src/tried.rt": text}, {}, {}).build("tried", 9) == value
 
 
-def constant(name: str) -> list[str]:
-    """Returns the value of a constant of the queues, as tokens."""
-    found = next(one for one in source_of(CRATES / "turn_lock/src/queues.rt").named if one.name == name)
-    texts = [token.text for token in found.tokens]
-    return texts[texts.index("=") + 1:-1]
-
-
-def test_the_limits_of_the_model_are_those_of_the_lock() -> None:
-    """The turns of the model count as heavy ones."""
-    for limit, name in zip(turns.LIMITS["free"], ("MOST_BEFORE_BRIEF", "MOST_BEFORE_OTHERS")):
-        assert constant(name) == [str(limit), "*", "HEAVY"]
-
-
-@pytest.mark.parametrize("callers, limits", [*zip(turns.QUEUES.values(), turns.LIMITS.values())],
-                         ids=[f"{callers}, {how}" for callers, how in zip(turns.QUEUES, turns.LIMITS)])
-def test_each_caller_takes_its_turn(callers: tuple[int, ...], limits: tuple[int, int]) -> None:
-    states, wrong = turns.search(callers, limits)
-    assert wrong == "" and states > 1000
-
-
-@pytest.mark.parametrize("fault", turns.FAULTS)
-def test_a_fault_of_the_lock_is_found(fault: str) -> None:
-    assert turns.search(turns.QUEUES["one brief"], turns.LIMITS[turns.FAULTS[fault]], fault)[1]
-
-
-@pytest.mark.parametrize("lines", bell.RUNS.values(), ids=list(bell.RUNS))
-def test_no_line_that_can_be_written_waits(lines: tuple[int, ...]) -> None:
-    states, wrong = bell.search(lines)
-    assert wrong == "" and states > 100
-
-
-@pytest.mark.parametrize("fault", bell.FAULTS)
-def test_a_fault_of_the_bell_is_found(fault: str) -> None:
-    assert bell.search(bell.RUNS[bell.FAULTS[fault]], fault)[1]
-
-
-def test_the_tokens_of_a_body_are_those_without_comments() -> None:
-    assert [token.text for token in code_of(tokens_of("a.b(1) // c\n/// d\n + 'x' \"//\""))] == [
-        "a", ".", "b", "(", "1", ")", "+", "'x'", '"//"']
-
-
-if __name__ == "__main__":
-    LIST.write_text("\n".join(modelled()) + "\n", encoding="utf-8")
+@pytest.mark.parametrize("body", ["loop { }", "while number > 1 { }", "|one| one", "number?", "number >> 1"])
+def test_another_part_of_the_language_is_refused(body: str) -> None:
+    with pytest.raises((ValueError, SyntaxError)):
+        Program({"turn_lock/src/tried.rt": f"fn tried(number: u64) -> u64 {{ {body} }}"}, {}, {}).build("tried", 9)

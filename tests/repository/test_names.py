@@ -1,7 +1,5 @@
 """Tests that a word has one meaning: no two crates define the same name in specs/, or the same type or constant in src/, and
 no number has two names, except those listed below."""
-from __future__ import annotations
-
 import re
 from collections import defaultdict
 from collections.abc import Iterable
@@ -45,7 +43,6 @@ LEAST = 100
 
 
 def definitions() -> dict[str, set[str]]:
-    """Returns the crates that define each name."""
     crates = defaultdict(set)
     for file in CRATES.glob("*/specs/**/*.antt"):
         if file.name in ("Lib.antt", "Names.antt"):
@@ -95,7 +92,6 @@ def numbers(sources: Iterable[Source]) -> dict[int, set[str]]:
 
 
 def doubled(sources: Iterable[Source]) -> list[str]:
-    """Returns the numbers with several names, unless these are allowed."""
     several = {number: names for number, names in numbers(sources).items() if number >= LEAST and len(names) > 1}
     return [f"{number:,} is {', '.join(sorted(names))}" for number, names in sorted(several.items())
             if not any(names <= allowed for allowed in SAME_NUMBER.values())]

@@ -1,6 +1,4 @@
 """Tests that the packages of life_tools stand in layers: each imports only packages below it."""
-from __future__ import annotations
-
 import ast
 from pathlib import Path
 
@@ -10,16 +8,6 @@ TOOLS = ROOT / "tools" / "life_tools"
 # from the lowest to the highest
 LAYERS = ("common", "rules", "tables", "reserves", "journal", "valuations", "scripts", "reports", "audit", "books", "desk",
           "backup", "window", "cli")
-# Modules that import a package above their own. No module may be added, and one that is no longer needed is removed.
-UPWARD = {
-    ("reports/bundles.py", "audit"),        # a bundle holds the working papers of a sample
-    ("audit/samples.py", "books"),          # the name for all books of a list
-    ("audit/listed_samples.py", "books"),   # likewise
-    ("books/sheets.py", "cli"),             # what the commands due and movement print
-    ("window/month_pages.py", "cli"),       # the columns of the command report
-    ("window/due_lists.py", "cli"),         # the lists of the command due
-    ("window/day_pages.py", "cli"),         # their names
-}
 
 
 def imported(text: str) -> set[str]:
@@ -31,7 +19,6 @@ def imported(text: str) -> set[str]:
 
 
 def upward(file: str, text: str) -> set[tuple[str, str]]:
-    """Returns the packages above its own that a module of this path imports."""
     own = LAYERS.index(Path(file).parts[0])
     return {(file, package) for package in imported(text) if LAYERS.index(package) > own}
 
@@ -43,7 +30,7 @@ def test_each_package_is_in_a_layer() -> None:
 def test_no_module_imports_a_package_above_its_own() -> None:
     files = [file for file in TOOLS.glob("*/*.py")]
     found = {one for file in files for one in upward(str(file.relative_to(TOOLS)), file.read_text(encoding="utf-8"))}
-    assert found == UPWARD
+    assert found == set()
 
 
 def test_an_import_from_above_is_told() -> None:

@@ -1,6 +1,4 @@
 """Tests the scripts as they are written: types by mypy, style by flake8 and shellcheck, and no Python in a shell script."""
-from __future__ import annotations
-
 import os
 import re
 import subprocess
@@ -15,6 +13,8 @@ FLAT = sorted({str(file.parent.relative_to(ROOT)) for folder in ("bench", ".ci")
 # SC1090, SC1091: a part is read by a path that is computed; SC2015, SC2016, SC2094: the code is meant so; SC3013: `-nt`, which
 # each shell here has; SC2013: words, not lines
 ALLOWED = "SC1090,SC1091,SC2013,SC2015,SC2016,SC2094,SC3013"
+# an exemption with no comment after it
+EXEMPT = re.compile(r"#\s*(?:noqa|type: ignore)\b[^#]*$")
 WITHIN = re.compile(r"""python3?"? (-[A-Za-z]+ )*- |python3?"? (-[A-Za-z]+ )*-$|<<'?PY|python3 -c (?!["']import [\w., ]+["'])""")
 
 
@@ -26,7 +26,6 @@ def said(words: list[str], folder: Path = ROOT, path: str = "") -> str:
 
 
 def cache(name: str) -> str:
-    """Returns the folder for mypy's cache of a run."""
     return str(ROOT / "out" / "mypy" / name.replace("/", "-"))
 
 
@@ -75,3 +74,19 @@ def test_no_python_within_a_shell_script(script: str) -> None:
     ("python3 -B tool.py", False)])
 def test_python_within_shell_is_seen(line: str, is_told: bool) -> None:
     assert bool(WITHIN.search(line)) == is_told
+
+
+def test_each_exemption_from_a_checker_states_its_reason() -> None:
+    """The reason is a further comment after the one that the checker reads."""
+    words = ["git", "ls-files", "*.py", "tools/life-tools"]
+    listed = subprocess.run(words, cwd=ROOT, capture_output=True, text=True, check=True)
+    bare = [f"{name}: {line.strip()}" for name in listed.stdout.splitlines() if (ROOT / name).exists()
+            for line in (ROOT / name).read_text(encoding="utf-8").splitlines() if EXEMPT.search(line)]
+    assert bare == []
+
+
+@pytest.mark.parametrize("line, is_told", [
+    ("x = 1  # no" + "qa: E501", True), ("x = 1  # no" + "qa: E501 # a long address", False),
+    ("x = 1  # type" + ": ignore[misc]", True), ("x = 1  # type" + ": ignore[misc] # no types", False)])
+def test_an_exemption_without_a_reason_is_seen(line: str, is_told: bool) -> None:
+    assert bool(EXEMPT.search(line)) == is_told

@@ -1,250 +1,97 @@
-"""Searches all interleavings of three callers of the lock, with one turn each, over both queues: a caller that waits must be
-woken.
-
-The steps are the atomic accesses of turn_lock: src/entering.rt, src/queues.rt, and take and give of src/steps.rt. No contract
-states that a wake arrives; this search shows it for a model. If a ring is left out, or two accesses are exchanged (FAULTS), the
-search must find a caller that sleeps for ever.
+"""Searches all interleavings of callers of the lock, who run its functions as the sources have them: a caller that waits must be
+woken, and few turns may pass it. No contract states either.
 """
 from __future__ import annotations
 
-from typing import NamedTuple
+from collections.abc import Callable
+from typing import Any, NamedTuple
 
-FREE, TAKEN, NOBODY = -1, -2, -3
-BRIEF, OTHERS = 0, 1
-QUEUES = {
-    "others alone": (OTHERS, OTHERS, OTHERS),
-    "one brief": (BRIEF, OTHERS, OTHERS),
-    "two brief": (BRIEF, BRIEF, OTHERS),
-}
-# This many turns in a row may pass the first caller of each queue. Three turns don't reach the limits of the lock, which are last
-LIMITS = {"kept": (1, 1), "free, then kept": (2, 2), "free": (5, 8)}
-# This many more may pass the first brief caller: if both queues are due, the other queue's first caller is let in before it
-MORE = (1, 0)
-NO_FREE_RING = "no ring after a free give"
-NO_KEPT_RING = "no ring after a give to one that waits"
-EARLY_RING = "the ring before the give"
-EARLY_LOOK = "a look at who waits before the give"
-LATE_BELL = "a look at the lock before the bell is odd"
-KEPT_WHEN_DUE = "a free give where a queue is due"
-FAULTS = {
-    NO_FREE_RING: "free",
-    NO_KEPT_RING: "kept",
-    EARLY_RING: "kept",
-    EARLY_LOOK: "free",
-    LATE_BELL: "free",
-    KEPT_WHEN_DUE: "kept",
-}
+from tests.repository.interleavings import Access, Atomic, Long, Program, Search, State, Thread
+from tests.repository.translated import Record, Steps, copied
 
-# what is done with the lock's word at the end of a turn, and with the bells
-SEES = ("see_let_in", "see_came", "first_let_in", "first_came")
-RINGS = ("read_other_bell", "ring")
-SLEEPS = ("sleep",)
+FILES = tuple(f"turn_lock/src/{name}.rt" for name in ("seats", "queues", "entering", "steps", "turnstile"))
 
 
-class Queue(NamedTuple):
-    """A queue: how many came and were let in, their bells, and the number of turns that passed its first caller."""
+class Board:
+    """The table: the lock's word, and the value if nobody has it."""
 
-    came: int = 0
-    let_in: int = 0
-    bells: tuple[int, ...] = (0, 0, 0)
-    first: int = 0
-    passed: int = 0
+    def __init__(self, cells: list[Any], first: Any) -> None:
+        self.word, self.value = Atomic(cells, 0), Atomic(cells, ("Some", first))
+
+    def compare_exchange(self, _place: None, _lock: int, old: int, new: int) -> Steps:
+        return (yield from self.word.access("compare", old, new))[1]
+
+    def exchange(self, _place: None, _value: int, new: Any) -> Steps:
+        return self.value.access("exchange", copied(new))
+
+    def store(self, _place: None, _lock: int, new: int) -> Steps:
+        return self.word.store(new, None)
 
 
 class Caller(NamedTuple):
-    """A caller: its next steps, its queue and its number there, what it read last, and whose bell it rings."""
+    """A caller: how many turns it takes, in which queue it waits, and whether its turns are light."""
 
-    steps: tuple[str, ...]
-    queue: int
-    number: int = 0
-    read: int = 0
-    is_inside: bool = False
-    gives: int = FREE
-    rings: int = NOBODY
+    turns: int = 1
+    is_brief: bool = False
+    is_light: bool = False
 
 
-class State(NamedTuple):
-    """The lock's word, the two queues and the callers, which are interchangeable.
+class Call:
+    """What a caller calls in its turns."""
 
-    A word that keeps the lock for a caller is twice the caller's number, plus one for the queue of others.
+    def __init__(self, caller: Caller) -> None:
+        self.caller = caller
+
+    def is_brief(self) -> bool:
+        return self.caller.is_brief
+
+    def is_light(self) -> bool:
+        return self.caller.is_light
+
+    def run(self, _value: Any, _caller: int) -> Steps:
+        return (yield Long("turn"))
+
+
+class Lock(Search):
+    """Callers of a lock, with the weight that may pass the first brief caller and the first other one.
+
+    A thread counts the turns that began since it queues, plus one.
     """
 
-    lock: int
-    queues: tuple[Queue, ...]
-    callers: tuple[Caller, ...]
+    def __init__(self, texts: dict[str, str], callers: tuple[Caller, ...], limits: tuple[int, int]) -> None:
+        numbers = {"MOST_BEFORE_BRIEF": limits[0], "MOST_BEFORE_OTHERS": limits[1]}
+        program = Program(texts, {"Snapshot::of": lambda call: None}, numbers)
+        queues = program.build("Queues::new")
+        board = Record("Board", shared=Board(program.cells, program.build("Kept::first", None)))
+        turnstile = Record("Turnstile", queues=queues, board=board)
+        self.came = {queues.brief.came.cell, queues.others.came.cell}
+        # one more turn may pass the first brief caller: if both queues are due, the other one is let in before it
+        self.most = max(limits) // (1 if any(one.is_light for one in callers) else 8) + 1
 
+        def turns(caller: Caller) -> Callable[[], Steps]:
+            call = Call(caller)
 
-def kept_for(queue: int, number: int) -> int:
-    return number * 2 + queue
+            def take() -> Steps:
+                seat = Record("Pass", place=None, caller=0, left=caller.turns)
+                while vars(seat)["left"]:
+                    yield from program.called("Turnstile::turn", turnstile, "rt", seat, call)
+            return take
+        kinds = {caller: turns(caller) for caller in callers}
+        super().__init__(program, [kinds[caller] for caller in callers])
 
+    def counted(self, before: tuple[Thread, ...], after: list[Thread], at: int) -> list[Thread]:
+        does = self.does(before[at])
+        if isinstance(does, Long):
+            return [one._replace(tally=0 if place == at else one.tally + (one.tally > 0)) for place, one in enumerate(after)]
+        if isinstance(does, Access) and does.cell in self.came and "Queue::come" in self.locals[before[at].local].inside:
+            after[at] = after[at]._replace(tally=1)
+        return after
 
-class Turn:
-    """The next step of one caller, as the lock does it, or with a fault."""
-
-    def __init__(self, state: State, at: int, limits: tuple[int, int], fault: str) -> None:
-        self.lock, self.queues, self.callers = state.lock, list(state.queues), list(state.callers)
-        self.me = state.callers[at]
-        self.at, self.limits, self.fault = at, limits, fault
-        self.queue = state.queues[self.me.queue]
-
-    def after(self) -> State:
-        """Returns the state after the step."""
-        step, *rest = self.me.steps
-        self.me = self.me._replace(steps=tuple(rest))
-        getattr(self, step)()
-        self.callers[self.at] = self.me
-        return State(self.lock, tuple(self.queues), tuple(sorted(self.callers)))
-
-    def to(self, *steps: str, **changes: int) -> None:
-        self.me = self.me._replace(steps=steps, **changes)  # type: ignore[arg-type]
-
-    def put(self, queue: int, **changes: int) -> None:
-        self.queues[queue] = self.queues[queue]._replace(**changes)  # type: ignore[arg-type]
-
-    def put_bell(self, queue: int, number: int, value: int) -> None:
-        bells = list(self.queues[queue].bells)
-        bells[number] = value
-        self.queues[queue] = self.queues[queue]._replace(bells=tuple(bells))
-
-    def takes(self, word: int) -> bool:
-        """Takes the lock if it has this word; returns whether it did."""
-        if self.lock != word:
-            return False
-        self.lock = TAKEN
-        self.to("count_others", "count_brief", "choose", number=0, read=0, is_inside=True)
-        return True
-
-    def arrive(self) -> None:
-        if not self.takes(FREE):
-            self.to("come")
-
-    def come(self) -> None:
-        self.put(self.me.queue, came=self.queue.came + 1)
-        self.to(*self.ways_to_wait(), number=self.queue.came)
-
-    def ways_to_wait(self) -> tuple[str, ...]:
-        looks = ("take_kept", "see_if_first")
-        bell = ("read_bell", "lie_down")
-        return (*looks, *bell, "park") if self.fault == LATE_BELL else (*bell, *looks, "park")
-
-    def read_bell(self) -> None:
-        self.me = self.me._replace(read=self.queue.bells[self.me.number])
-
-    def lie_down(self) -> None:
-        if self.queue.bells[self.me.number] == self.me.read:
-            self.put_bell(self.me.queue, self.me.number, self.me.read | 1)
-        self.me = self.me._replace(read=self.me.read | 1)
-
-    def take_kept(self) -> None:
-        self.takes(kept_for(self.me.queue, self.me.number))
-
-    def see_if_first(self) -> None:
-        if self.queue.let_in == self.me.number:
-            self.to("take_free", *self.me.steps)
-
-    def take_free(self) -> None:
-        if self.takes(FREE):
-            self.to("let_me_in", *self.me.steps)
-
-    def let_me_in(self) -> None:
-        self.put(self.me.queue, let_in=self.queue.let_in + 1)
-
-    def park(self) -> None:
-        """Sleeps if nobody has rung since."""
-        if self.queue.bells[self.me.number] == self.me.read:
-            self.to(*SLEEPS)
-        else:
-            self.to(*self.ways_to_wait(), read=0)
-
-    def count_others(self) -> None:
-        self.count(OTHERS)
-
-    def count_brief(self) -> None:
-        self.count(BRIEF)
-
-    def count(self, which: int) -> None:
-        """Counts the turn. Of the values that it reads, others change only `came` meanwhile, so this is one access."""
-        queue = self.queues[which]
-        before = queue.passed if queue.first == queue.let_in else 0
-        self.put(which, first=queue.let_in, passed=before + 1 if queue.came != queue.let_in else 0)
-
-    def choose(self) -> None:
-        for which in (OTHERS, BRIEF):
-            number = self.queues[which].let_in
-            if self.queues[which].passed >= self.limits[which] and self.fault != KEPT_WHEN_DUE:
-                self.put(which, let_in=number + 1)
-                word = kept_for(which, number)
-                self.to(*self.ways_to_keep(), gives=word, rings=word)
-                return
-        self.to(*self.ways_to_free(), gives=FREE)
-
-    def ways_to_keep(self) -> tuple[str, ...]:
-        if self.fault == NO_KEPT_RING:
-            return ("give",)
-        return (*RINGS, "give") if self.fault == EARLY_RING else ("give", *RINGS)
-
-    def ways_to_free(self) -> tuple[str, ...]:
-        if self.fault == NO_FREE_RING:
-            return ("give",)
-        return (*SEES, "give", *RINGS) if self.fault == EARLY_LOOK else ("give", *SEES, *RINGS)
-
-    def give(self) -> None:
-        self.lock = self.me.gives
-        self.me = self.me._replace(gives=FREE, is_inside=False)
-
-    def see_let_in(self) -> None:
-        self.me = self.me._replace(read=self.queues[OTHERS].let_in)
-
-    def see_came(self) -> None:
-        """Notes whether somebody waits among the others; if not, the brief ones are looked at."""
-        self.me = self.me._replace(read=OTHERS if self.queues[OTHERS].came != self.me.read else BRIEF)
-
-    def first_let_in(self) -> None:
-        self.me = self.me._replace(read=0, rings=kept_for(self.me.read, self.queues[self.me.read].let_in))
-
-    def first_came(self) -> None:
-        number, which = divmod(self.me.rings, 2)
-        if self.queues[which].came == number:
-            self.to(*(it for it in self.me.steps if it not in RINGS), rings=NOBODY)
-
-    def read_other_bell(self) -> None:
-        number, which = divmod(self.me.rings, 2)
-        read = self.queues[which].bells[number]
-        if read % 2:
-            self.me = self.me._replace(read=read)
-        else:
-            self.to(*self.me.steps[1:], rings=NOBODY)
-
-    def ring(self) -> None:
-        """Makes an odd bell even, and wakes the caller that sleeps at it."""
-        number, which = divmod(self.me.rings, 2)
-        if self.queues[which].bells[number] == self.me.read:
-            self.put_bell(which, number, self.me.read + 1)
-            self.callers = [self.woken(it, which, number) for it in self.callers]
-        self.me = self.me._replace(read=0, rings=NOBODY)
-
-    def woken(self, caller: Caller, which: int, number: int) -> Caller:
-        if caller.steps != SLEEPS or (caller.queue, caller.number) != (which, number):
-            return caller
-        return caller._replace(steps=self.ways_to_wait(), read=0)
-
-
-def search(queues: tuple[int, ...], limits: tuple[int, int], fault: str = "") -> tuple[int, str]:
-    """Returns how many states can be reached, and what is wrong with one of them, or an empty text."""
-    start = State(FREE, (Queue(), Queue()), tuple(Caller(("arrive",), queue) for queue in queues))
-    seen, left = {start}, [start]
-    while left:
-        state = left.pop()
-        if sum(it.is_inside for it in state.callers) > 1:
-            return len(seen), "two callers are inside"
-        if any(queue.passed > limit + most for queue, limit, most in zip(state.queues, limits, MORE)):
-            return len(seen), "too many turns pass one that waits"
-        awake = [at for at, caller in enumerate(state.callers) if caller.steps not in ((), SLEEPS)]
-        if not awake and any(caller.steps for caller in state.callers):
-            return len(seen), "a caller sleeps for ever"
-        for at in awake:
-            after = Turn(state, at, limits, fault).after()
-            if after not in seen:
-                seen.add(after)
-                left.append(after)
-    return len(seen), ""
+    def wrong(self, state: State) -> str:
+        if sum(isinstance(self.does(one), Long) for one in state.threads) > 1:
+            return "two callers are inside"
+        if any(one.tally > self.most + 1 for one in state.threads):
+            return "too many turns pass one that waits"
+        if not self.can_go_on(state) and any(one.sleeps for one in state.threads):
+            return "a caller sleeps for ever"
+        return ""
