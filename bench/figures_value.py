@@ -1,7 +1,6 @@
 """Figures of valuations and projections, each timed within its run."""
 from __future__ import annotations
 
-import datetime
 import hashlib
 import os
 import re
@@ -12,9 +11,9 @@ from typing import Any
 
 import timing
 import workload
-from timing import Folder, Watched, median
+from timing import Folder, Watched, figure, median, told
+from workload import MILLION
 
-MILLION = 1000000
 ON, BEFORE_ALL = "2020-12-31", "1999-12-31"
 
 
@@ -60,10 +59,7 @@ def plain_value(folder: timing.Folder, plain: str, workers: int) -> float:
     return float(told[1])
 
 
-def told_whole(runs: list[timing.Run]) -> str:
-    return f"{median(runs, 'clock'):.2f} s, {median(runs, 'peak'):.0f} MiB"
-
-
+@figure
 def workers(setting: timing.Setting) -> Iterator[timing.Row]:
     with filled(setting, MILLION) as folder:
         plain = timing.build_plain("plain_value", folder.path)
@@ -79,9 +75,10 @@ def workers(setting: timing.Setting) -> Iterator[timing.Row]:
         yield (f"valuation of {MILLION:,} policies, workers: {n}; {each['read']:.3f} s of it reading",
                f"{each['life', n]:.3f} s; without reading {alone[n]:.3f}, {alone[1] / alone[n]:.2f} times one",
                f"`plain_value.rs` {each['plain', n]:.3f}, {each['plain', 1] / each['plain', n]:.2f} times one")
-    yield f"`value` of {MILLION:,} policies by 4 workers, whole", told_whole(whole), ""
+    yield f"`value` of {MILLION:,} policies by 4 workers, whole", told(whole), ""
 
 
+@figure
 def small(setting: timing.Setting) -> Iterator[timing.Row]:
     """Books so small that starting threads takes most of their valuation."""
     for count in (1, 300):
@@ -97,6 +94,7 @@ def timed_alone(setting: timing.Setting, folder: timing.Folder, *words: Any) -> 
     return timing.from_last_read_to_first_write([setting.program, *words], folder.path)
 
 
+@figure
 def measures(setting: timing.Setting) -> Iterator[timing.Row]:
     count = 100000
     with filled(setting, count) as folder:
@@ -121,6 +119,7 @@ def need_same_text(setting: timing.Setting, folder: timing.Folder, *words: Any) 
         sys.exit(f"wrong: the text of {words} isn't the same for each number of workers")
 
 
+@figure
 def project(setting: timing.Setting) -> Iterator[timing.Row]:
     with filled(setting, MILLION) as folder:
         need_same_text(setting, folder, "project", ON, "40")
@@ -156,6 +155,7 @@ def value_by(setting: timing.Setting, folder: Filled, table: str) -> float:
     return in_run(setting, folder, 1)
 
 
+@figure
 def select(setting: timing.Setting) -> Iterator[timing.Row]:
     for count in (20000, 100000, MILLION):
         with filled(setting, count) as folder:
@@ -165,15 +165,3 @@ def select(setting: timing.Setting) -> Iterator[timing.Row]:
         ultimate, select_ = median(found["ultimate"]), median(found["select"])
         yield (f"valuation of {count:,} policies by a select table, one worker", f"{1000 * select_:.1f} ms",
                f"by its ultimate part alone {1000 * ultimate:.1f} ms: {ultimate / select_:.2f} as many a second")
-
-    with filled(setting, MILLION) as folder:
-        write_tables(folder)
-        rows = [datetime.date(1950, 1, 1) + datetime.timedelta(n) for n in range(1000)]
-        for n in range(1000):
-            os.link(folder.at("select.xml"), folder.at(f"s{n}.xml"))
-        workload.write_lines(folder.at("basis.csv"), [f"{day},s{n}.xml,400" for n, day in enumerate(rows)])
-        run = timing.timed([setting.program, "value", ON], folder.path)
-    yield f"`value` of {MILLION:,} policies, whole, by 1,000 rows that each name a select table", told_whole([run]), ""
-
-
-FIGURES = {"workers": workers, "small": small, "measures": measures, "project": project, "select": select}

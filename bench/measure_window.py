@@ -8,8 +8,6 @@ The book has COMMANDS commands (1,000,000) on POLICIES policies (a quarter of th
 program is the proved one, or LIFE_PROGRAM. The memory is that of the window and all processes that it runs, with shared memory
 counted once.
 """
-from __future__ import annotations
-
 import http.client
 import os
 import subprocess
@@ -22,10 +20,9 @@ from urllib.parse import urlsplit
 
 import timing
 import workload
-from figures_opening import paid_policies
 from timing import Folder
+from workload import MILLION, paid_policies
 
-MILLION = 1000000
 TOOLS = os.path.join(timing.ROOT, "tools", "life-tools")
 DAY = "2023-01-01"
 NEW = (f"/1/policy?number=77777&on={DAY}", f"/1/report?on={DAY}&measure=mean", f"/1/day?day={DAY}",

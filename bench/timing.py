@@ -14,7 +14,7 @@ import subprocess
 import sys
 import tempfile
 import time
-from collections.abc import Callable, Mapping, Sequence
+from collections.abc import Callable, Iterator, Mapping, Sequence
 from typing import Any, NamedTuple, TypeVar
 
 import workload
@@ -45,6 +45,16 @@ class Setting(NamedTuple):
     disk: str
     memory: str
     rounds: int
+
+
+Figure = Callable[[Setting], Iterator[Row]]
+FIGURES: dict[str, Figure] = {}
+
+
+def figure(make: Figure) -> Figure:
+    """Makes a figure known by the name of its function."""
+    FIGURES[make.__name__] = make
+    return make
 
 
 def set_priority(level: int) -> None:
@@ -83,12 +93,14 @@ def need_right(status: int, words: list[str]) -> None:
         sys.exit(f"wrong: status {status} of {' '.join(words)}")
 
 
-def timed(words: list[str], folder: str, script: str = os.devnull, written: str = os.devnull) -> Run:
+def timed(words: list[str], folder: str, script: str = os.devnull, written: str = os.devnull,
+          statuses: Sequence[int] = (0,)) -> Run:
     before, begun = resource.getrusage(resource.RUSAGE_CHILDREN), time.perf_counter()
-    run = start(["/usr/bin/time", "-f", "%M", *words], folder, script, written, subprocess.PIPE)
+    run = start(["/usr/bin/time", "-q", "-f", "%M", *words], folder, script, written, subprocess.PIPE)
     told = run.communicate()[1]
     clock, after = time.perf_counter() - begun, resource.getrusage(resource.RUSAGE_CHILDREN)
-    need_right(run.returncode, words)
+    if run.returncode not in statuses:
+        need_right(run.returncode, words)
     used = after.ru_utime + after.ru_stime - before.ru_utime - before.ru_stime
     return Run(clock, used, int(told.split()[-1]) / 1024)
 
@@ -104,6 +116,17 @@ def in_turn(rounds: int, ways: Mapping[Any, Callable[..., Value]]) -> dict[Any, 
 
 def median(values: Sequence[Any], part: str | None = None) -> float:
     return float(statistics.median(values if part is None else [getattr(each, part) for each in values]))
+
+
+def told(runs: Sequence[Run]) -> str:
+    return f"{median(runs, 'clock'):.2f} s, {median(runs, 'peak'):.0f} MiB"
+
+
+def proved_program() -> str:
+    """Returns the program that is measured: LIFE_PROGRAM, or the proved one, which is proved and built first."""
+    if "LIFE_PROGRAM" not in os.environ:
+        subprocess.run(["sh", os.path.join(ROOT, "life"), "prove"], check=True)
+    return os.path.realpath(os.environ.get("LIFE_PROGRAM", os.path.join(ROOT, "crates", "life_cli", "out", "life_cli")))
 
 
 def build_plain(name: str, folder: str) -> str:

@@ -1,6 +1,4 @@
 """Writes the journals and scripts over which the scripts of this folder measure, drawn as `life generate` draws them."""
-from __future__ import annotations
-
 import os
 import struct
 from collections.abc import Iterable, Iterator, Sequence
@@ -10,6 +8,7 @@ RECORD = struct.Struct(">BBBBBIiQQ36x")
 ISSUE, PREMIUM = 1, 2
 WHOLE = 2
 FIRST_DAY = 10957
+MILLION, MANY, LONGEST = 1000000, 300000, 16 * 1024 * 1024
 
 
 class Draws:
@@ -71,3 +70,28 @@ def valuation_lines(lane: int, count: int, workers: int = 1, day: str = "2020-12
 def write_lines(path: str, lines: Iterable[str]) -> None:
     with open(path, "w", encoding="ascii") as file:
         file.writelines(line + "\n" for line in lines)
+
+
+def short_issues(lanes: int) -> list[str]:
+    """Returns as many issues as a script of 16 MiB holds."""
+    return [f"{1 + n % lanes},issue,{n + 1},2020-01-01,endowment,0,3,1000.00,400.00" for n in range(MANY)]
+
+
+def as_many_as_fit(lines: Iterable[str], last: str) -> list[str]:
+    """Returns as many of these lines as a script of 16 MiB holds before its last line."""
+    size, found = len(last) + 1, list[str]()
+    for line in lines:
+        size += len(line) + 1
+        if size > LONGEST:
+            break
+        found.append(line)
+    return [*found, last]
+
+
+def paid_policies(policies: int) -> Iterator[bytes]:
+    """Yields issues, and then the premiums of three years."""
+    for number in range(1, policies + 1):
+        yield record(ISSUE, number, 18262, (3, 30, 20), 100000 + number, 40000)
+    for day in (18262, 18262 + 366, 18262 + 366 + 365):
+        for number in range(1, policies + 1):
+            yield record(PREMIUM, number, day, amount=40000)
