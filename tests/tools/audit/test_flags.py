@@ -1,7 +1,5 @@
 """Tests `audit flags`: one flag of each kind worked out by hand, and those of a drawn book compared with SQLite queries over
 what `export` wrote."""
-from __future__ import annotations
-
 import csv
 import io
 import sqlite3

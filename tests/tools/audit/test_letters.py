@@ -1,7 +1,5 @@
 """Tests letters of confirmation: until when a policy is insured, what is due for it, and the book's own name. The figures are
 worked out by hand."""
-from __future__ import annotations
-
 import csv
 import io
 
@@ -12,7 +10,7 @@ from tests.support.folders import Folder
 # Worked out by hand for the day 2021-03-31; whole life covers up to age 131. Policy 1 is paid until 2022-01-15. Policy 2 has a
 # premium due since 2021-03-15, and its 31 days of grace end on 2021-04-15. Policy 3 had a premium due on 2021-01-20; its grace
 # ended on 2021-02-20, and no lapse is posted. Policy 4 is paid up since the upgrade, so the letter shows no premium. Policy 5 has
-# missed two premiums, and its grace ended on 2020-04-01.
+# missed two premiums, and its grace ended on 2020-04-01. Policy 6 has paid its two premiums, so no further one is due.
 SCRIPT = """\
 1,issue,1,2020-01-15,whole,40,0,1000.00,10.00
 1,premium,1,2020-01-15,10.00
@@ -27,11 +25,14 @@ SCRIPT = """\
 1,upgrade
 1,paidup,4,2021-03-01,500.00
 1,issue,5,2020-03-01,limited,40,10,5000.00,50.00
+1,issue,6,2019-03-01,limited,40,2,60000.00,600.00
+1,premium,6,2019-03-01,600.00
+1,premium,6,2020-03-01,600.00
 """
 # by policy: premium a year, next premium due, premium in arrears, insured until
 WANTED = {"1": ("10.00", "2022-01-15", "", "2111-01-15"), "2": ("20.00", "2021-03-15", "20.00", "2021-04-15"),
           "3": ("30.00", "2021-01-20", "30.00", "2021-02-20"), "4": ("", "", "", "2111-02-10"),
-          "5": ("50.00", "2020-03-01", "100.00", "2020-04-01")}
+          "5": ("50.00", "2020-03-01", "100.00", "2020-04-01"), "6": ("600.00", "", "", "2110-03-01")}
 COLUMNS = ("premium a year", "next premium due", "premium in arrears", "insured until")
 
 
@@ -50,10 +51,10 @@ def letters(office: Folder, *words: str) -> dict[str, dict[str, str]]:
 
 
 def test_insured_until(office: Folder) -> None:
-    drawn = office.printed("audit", "sample", "13", "--seed", "1", "--on", "2021-03-31", "--by", "amount")
+    drawn = office.printed("audit", "sample", "60", "--seed", "1", "--on", "2021-03-31", "--by", "amount")
     office.write("sample", drawn)
     found = letters(office)
-    assert set(found) >= {"3", "5"}, found
+    assert set(found) >= {"2", "3", "4", "5", "6"}, found
     for number, row in found.items():
         assert tuple(row[name] for name in COLUMNS) == WANTED[number], number
 
@@ -70,6 +71,7 @@ def test_a_page_for_each_letter(office: Folder) -> None:
     rows = letters(office)
     office.printed("audit", "letters", "sample", "--html", "letters.html", "--title", "An Office")
     page = office.read("letters.html")
+    assert ("none: all premiums are paid" in page) == ("6" in rows)
     assert page.count("<section ") == len(rows) and "src=" not in page and "@import" not in page
     if "2" in rows:
         assert "20.00 since 2021-03-15" in page and "until 2021-04-15, unless the premium is paid by then" in page

@@ -1,6 +1,4 @@
 """Tests monetary unit samples: samples worked out by hand, how often rows are drawn, and the papers and letters on a sample."""
-from __future__ import annotations
-
 import re
 from fractions import Fraction
 from random import Random
@@ -57,6 +55,12 @@ def test_over_many_seeds_each_row_comes_by_its_chance(sizes: list[int], asked: i
 
 def test_a_seed_draws_the_same_rows() -> None:
     assert draw([5, 7, 9, 200], 2, 11) == draw([5, 7, 9, 200], 2, 11)
+
+
+def test_the_start_is_by_the_rule_that_the_guide_gives() -> None:
+    """The SHA-256 of the seed's digits, as a number, modulo the total."""
+    of_seven = 0x7902699be42c8a8e46fbbb4501726517e86b22c56a189f7625a6da49081b2451
+    assert draw([5, 7, 9, 200], 2, 7).start == of_seven % 221
 
 
 def test_a_row_of_just_the_interval_is_certain() -> None:
@@ -120,7 +124,7 @@ def test_by_amount_and_by_mean_reserves(small_office: Folder) -> None:
 def test_a_row_with_a_word_counts_for_nothing_by_its_reserve(small_office: Folder) -> None:
     small_office.write("late.csv", "2021-02-01,g.xml,400\n")
     words = ["audit", "sample", "2", "--seed", "1", *ON, "--basis", "late.csv"]
-    small_office.finds(*words, says="of these 1 have a word in place")
+    small_office.finds(*words, says="of these 1 have no reserve")
     small_office.printed(*words, "--by", "amount")
 
 
@@ -153,7 +157,6 @@ def test_papers_of_another_sample(sample: Folder, old: str, new: str, says: str)
 
 
 def shown(text: str) -> str:
-    """Returns what a page of HTML says, without its tags."""
     return " ".join(re.sub("<[^>]*>", " ", re.sub("(?s)<style>.*?</style>", "", text)).split())
 
 

@@ -1,14 +1,10 @@
-"""Computes the sums of a statement's sheets independently: by SQLite over `export`, by exact fractions, and by the lists of
-`read` and `due`.
+"""Computes the sums of a statement's sheets independently: by exact fractions, and by the lists of `due`. What SQLite finds over
+`export` is compared in tests/year_end.
 
 The increase in reserves is computed a second way: by the anniversaries on which each policy was in force, each with the exact
 value of `life_tools.reserves`.
 """
-from __future__ import annotations
-
 import datetime
-import sqlite3
-from collections import Counter
 from fractions import Fraction
 from typing import Any
 
@@ -16,76 +12,14 @@ from life_tools.journal.file import file_of
 from life_tools.reports.periods import Asked
 from life_tools.reserves.exact import insured_by, terms_of
 from life_tools.rules.commands import Command
-from life_tools.rules.policies import Book, Policy, anniversary, completed
 from life_tools.tables.basis import BasisRow
+from tests.rules.policies import Book, Policy, anniversary, completed
+from tests.support.drawn_scripts import for_tools
 from tests.support.folders import Folder
-
-# what is in force at a position: the last command that changes a status, and the last one that sets an amount
-IN_FORCE = """
-with moved as (select policy, kind, plan, position, max(position) over (partition by policy) as last from command
-               where position <= :at and kind in ('issue', 'lapse', 'reinstate', 'claim', 'mature', 'paidup')),
-     born as (select policy, plan as its_plan from command where kind = 'issue'),
-     sized as (select policy, amount_cents, position, max(position) over (partition by policy) as last from command
-               where position <= :at and kind in ('issue', 'alter', 'paidup'))
-select case moved.kind when 'paidup' then 'paid up' else its_plan end as its, count(*), sum(sized.amount_cents)
-from moved join born using (policy) join sized on sized.policy = moved.policy and sized.position = sized.last
-where moved.position = moved.last and moved.kind in ('issue', 'reinstate', 'paidup') group by its"""
-MATURED = """select count(*) from command as c join command as b on b.policy = c.policy and b.kind = 'issue'
-where c.kind = 'mature' and c.position > ? and c.position <= ? and b.plan {} 'term'"""
-COLLECTED = "select kind, coalesce(sum(amount_cents), 0) from command where position > ? and position <= ? and kind in "
-OWED = """select coalesce(sum(case when account = 'payable' then -cents end), 0) from booking where position <= ?"""
-LINES = {"issued": "issue", "revived": "reinstate", "decreased": "alter", "made paid up": "paidup", "death": "claim",
-         "lapse": "lapse"}
-GROUPS = ("whole", "endowment", "term", "limited", "paid up")
 
 
 def rows_of(sheet: Any) -> Any:
     return {row.cells[0]: row.cells for row in sheet.rows}
-
-
-def kinds_read(folder: Folder) -> list[str]:
-    """Returns the kind of each command, as `read` lists them."""
-    return [line.split(",")[1] for line in folder.printed("read", "journal.life").splitlines() if line[0].isdigit()]
-
-
-def judge_exhibit(base: sqlite3.Connection, sheet: Any, first: int, last: int, kinds: list[str]) -> None:
-    """Judges counts and amounts by SQLite, and the postings of each kind by `read`; each column must balance."""
-    lines = rows_of(sheet)
-    for name, at in (("in force at the beginning", first), ("in force at the end", last)):
-        found = {group: (lines[name][1 + 2 * place], lines[name][2 + 2 * place]) for place, group in enumerate(GROUPS)}
-        wanted = {row[0]: row[1:] for row in base.execute(IN_FORCE, {"at": at})}
-        for group in GROUPS:
-            assert found[group] == wanted.get(group, (0, 0)), \
-                f"{name} at {at}, {group}: {found[group]}, SQLite has {wanted.get(group)}"
-    posted = Counter(kinds[first:last])
-    counted = {line: lines[line][-1] for line in lines}
-    for line, kind in LINES.items():
-        assert counted[line] == posted[kind], f"{line}: {counted[line]} postings, the journal has {posted[kind]}"
-    for line, sign in (("maturity", "<>"), ("expiry", "=")):
-        [wanted] = base.execute(MATURED.format(sign), (first, last)).fetchone()
-        assert counted[line] == wanted, f"{line}: {counted[line]} postings, the journal has {wanted}"
-    for place in range(1, len(sheet.columns) - 1):
-        column = [row.cells[place] for row in sheet.rows]
-        assert sum(column[:-1]) == column[-1], f"{sheet.columns[place].name} doesn't balance: {column}"
-
-
-def judge_money(base: sqlite3.Connection, sheets: dict[str, Any], first: int, last: int) -> None:
-    """Judges by SQLite what was collected and what is outstanding."""
-    lines = rows_of(sheets["premiums"])
-    found = lines["first-year premiums collected"][3] + lines["renewal premiums collected"][3]
-    sums = dict(base.execute(COLLECTED + "('premium', 'reinstate') group by kind", (first, last)))
-    revived = lines["collected by reinstatement"][3]
-    assert (found, revived) == (sums.get("premium", 0), sums.get("reinstate", 0)), f"collected {found}, SQLite has {sums}"
-    lines = rows_of(sheets["claims"])
-    for name, at in (("outstanding at the beginning", first), ("outstanding at the end", last)):
-        [owed] = base.execute(OWED, (at,)).fetchone()
-        assert lines[name][6] == owed, f"{name}: {lines[name][6]}, SQLite has {owed}"
-    aged = [row.cells for row in sheets["claims"].rows[4:]]
-    assert [sum(cells[place] for cells in aged) for place in range(1, 7)] == list(lines["outstanding at the end"][1:7]), \
-        "ages don't add up"
-    for place in range(1, 7):
-        assert sum(row.cells[place] for row in sheets["claims"].rows[:3]) == sheets["claims"].rows[3].cells[place], \
-            "claims don't balance"
 
 
 def printed_total(folder: Folder, on: datetime.date, position: int, measure: list[str]) -> list[int]:
@@ -131,7 +65,7 @@ def histories(commands: list[Command]) -> Any:
 
 
 def worth_of(policy: Policy, basis: list[BasisRow], known: dict[Any, Any]) -> Any:
-    terms = terms_of(policy, basis)
+    terms = terms_of(for_tools(policy), basis)
     if isinstance(terms, str):
         return None
     case = terms.row.day, policy.plan, policy.age, policy.years, policy.status == "paidup"

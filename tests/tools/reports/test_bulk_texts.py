@@ -1,6 +1,4 @@
 """Tests that rows of numbers and amounts which are made together are those that are made one by one."""
-from __future__ import annotations
-
 from hypothesis import given
 from hypothesis import strategies as st
 

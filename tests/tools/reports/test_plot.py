@@ -1,6 +1,4 @@
 """Tests `plot`: its drawings show the numbers that the program printed, and no others."""
-from __future__ import annotations
-
 import re
 import xml.dom.minidom
 from decimal import Decimal

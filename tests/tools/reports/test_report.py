@@ -1,7 +1,5 @@
 """Tests reports, movements and rows worked out: for the small office by amounts computed by hand
 (docs/explanation/reserves.md), for drawn books by sums of SQLite and of the printed rows, and for wrong input."""
-from __future__ import annotations
-
 import csv
 import datetime
 import hashlib
@@ -47,7 +45,6 @@ MOVEMENT = ["movement", "2022-12-31", "11", "2024-06-30", "27"]
 
 
 def has(text: str, lines: str) -> None:
-    """Asserts that each of these lines is printed, whatever blanks are in it."""
     found = {" ".join(line.split()) for line in text.splitlines()}
     assert set(lines.splitlines()) <= found, text
 

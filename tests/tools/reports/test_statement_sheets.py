@@ -1,6 +1,4 @@
 """Tests the statement on paper and on a screen, and the sentences that accompany its sums."""
-from __future__ import annotations
-
 import re
 import subprocess
 from pathlib import Path
@@ -27,7 +25,6 @@ def office(table_q: Folder) -> Folder:
 
 
 def words_of_pdf(page: Path) -> list[str]:
-    """Returns the words on paper, as the page is printed on A4."""
     made = page.with_suffix(".pdf")
     subprocess.run(["chromium", "--headless", "--no-sandbox", "--disable-gpu", "--no-pdf-header-footer", f"--print-to-pdf={made}",
                     f"file://{page}"], check=True, capture_output=True, timeout=120)
@@ -43,6 +40,14 @@ def test_the_printed_exhibit_has_all_its_columns(office: Folder) -> None:
     for wanted in ("299,999,999.97", "262,962,963.27", "296,296,296.30", "229,629,632.94", "1,088,888,892.48", "postings"):
         assert wanted in words, f"{wanted} isn't on paper"
     assert words.count("1,088,888,892.48") >= 2, "the totals of the lines issued and in force at the end"
+
+
+@pytest.mark.needs("chromium", "pdfinfo")
+def test_the_statement_is_printed_in_landscape(office: Folder) -> None:
+    office.printed("statement", *MOMENTS, "--mean", "--html", "page.html")
+    words_of_pdf(office.path / "page.html")
+    size = re.search("Page size: +([0-9.]+) x ([0-9.]+) pts", office.command("pdfinfo", "page.pdf"))
+    assert size and float(size[1]) > float(size[2]), size
 
 
 @pytest.mark.browser

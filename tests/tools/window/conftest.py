@@ -1,6 +1,4 @@
 """Fixtures for a window on a book with many kinds of postings, by tools that were installed with the program under test."""
-from __future__ import annotations
-
 from pathlib import Path
 from typing import Iterator
 
@@ -13,6 +11,7 @@ from tests.support.program import Program
 from tests.support.windows import Window, installed
 
 POLICIES = 300
+ISSUE = "1,issue,7001,2020-01-01,endowment,0,3,1000.00,400.00\n"
 
 
 @pytest.fixture(scope="session")
@@ -36,6 +35,15 @@ def lived(tmp_path_factory: pytest.TempPathFactory, program: Program) -> Folder:
 
 @pytest.fixture(scope="session")
 def window(tools: Path, lived: Folder) -> Iterator[Window]:
-    """An open window on this book, which tests only read."""
     with Window(tools, lived.path) as opened:
         yield opened
+
+
+@pytest.fixture
+def office(table_q: Folder) -> Folder:
+    """A book with only the policy whose reserve is computed by hand: 127.22 to 127.23 on 2021-01-01."""
+    book = table_q.below("office")
+    for name in ("q.xml", "basis.csv"):
+        book.write(name, table_q.read(name))
+    book.post(ISSUE)
+    return book

@@ -1,20 +1,21 @@
 """Tests that every number of a chart is that of the table under it and of the program, and that each mark leads to a list that
 adds up to it."""
-from __future__ import annotations
-
 import datetime
 import re
 import time
 from collections import Counter
+from pathlib import Path
 from typing import Iterable
 from urllib.parse import parse_qsl, urlsplit
 
 import pytest
 
+from life_tools.journal.file import file_of
 from life_tools.rules.commands import Command
-from life_tools.rules.policies import GRACE, Policy, anniversary, decide, due_of, missed_by
+from tests.rules.policies import GRACE, Policy, anniversary, decide
 from tests.support.folders import Folder
 from tests.support.lived_books import lived as commands_lived
+from tests.support.program import Program
 from tests.support.windows import PATIENCE, Answer, Window
 from tests.tools.window.conftest import POLICIES
 
@@ -30,7 +31,6 @@ def money(amount: int) -> str:
 
 
 def first_page(window: Window) -> Answer:
-    """Returns the first page once every year-end is valued."""
     ends = time.monotonic() + PATIENCE
     while time.monotonic() < ends:
         answer = window.page("/1/")
@@ -41,12 +41,10 @@ def first_page(window: Window) -> Answer:
 
 
 def told(marks: Iterable[str]) -> dict[str, str]:
-    """Returns what the marks say, by their names."""
     return dict(each.rsplit(": ", 1) for each in marks)
 
 
 def behind(answer: Answer, label: str) -> list[list[str]]:
-    """Returns the rows of the table under a chart."""
     captions = re.findall(r"<caption[^>]*>(.*?)</caption>", answer.page)
     return answer.rows(next(each for each in captions if each.startswith(label)))
 
@@ -56,9 +54,12 @@ def behind(answer: Answer, label: str) -> list[list[str]]:
 # the page runs the program and the tools three times for each of twelve year-ends
 @pytest.mark.timeout(1200)
 def test_year_ends_are_what_the_program_prints(window: Window, lived: Folder) -> None:
-    answer = first_page(window)
+    assert compared_year_ends(first_page(window), lived) >= 10
+
+
+def compared_year_ends(answer: Answer, lived: Folder) -> int:
+    """Compares each year-end of the chart and of its table with the program, and returns their number."""
     marks, rows = told(answer.marks("Reserve and amount insured")), behind(answer, "Reserve and amount insured")
-    assert len(rows) >= 10
     for day, position, insured, amount, lower, upper, words in rows:
         at = str(cents(position))
         assert at == lived.tools("position-on", day, "journal.life").out.strip()
@@ -69,10 +70,15 @@ def test_year_ends_are_what_the_program_prints(window: Window, lived: Folder) ->
         assert (cents(insured), cents(amount)) == (len(covered), sum(cents(row[6]) for row in covered))
         year = day[:4]
         assert marks[f"{year}, mean reserve, upper bound"] == upper and marks[f"{year}, amount insured"] == amount
+    assert len(marks) == 2 * len(rows)
+    return len(rows)
 
 
 def test_statuses_are_those_of_the_state(window: Window, lived: Folder) -> None:
-    answer = window.page("/1/")
+    compare_statuses(window.page("/1/"), lived)
+
+
+def compare_statuses(answer: Answer, lived: Folder) -> None:
     state = Counter(line.split(",")[2] for line in lived.printed("at", str(count_of(lived)), "state").splitlines()
                     if line.startswith("policy,"))
     words = {"inforce": "in force", "paidup": "paid up"}
@@ -132,7 +138,7 @@ def installments() -> tuple[Counter[str], Counter[str]]:
     until = datetime.date(2025, 3, 31)
     for policy in policies.values():
         if policy.status == "inforce":
-            for nth in range(policy.paid, policy.paid + missed_by(policy, until)):
+            for nth in range(policy.paid, policy.paid + policy.missed(until)):
                 due[f"{anniversary(policy.issued, nth):%Y-%m}"] += policy.premium
     return due, received
 
@@ -155,8 +161,8 @@ def test_what_falls_due_next_is_what_due_lists(window: Window, lived: Folder) ->
                  if line.startswith("premium,") and line.split(",")[2] > "2024-12-31")
     late = sum(policy.premium for policy in {command.number: policy for command, policy in
                                              steps_of(commands_lived(3, POLICIES))}.values() if policy.status == "inforce"
-               and (due := due_of(policy)) and due <= datetime.date(2024, 12, 31)
-               for nth in range(policy.paid, policy.paid + missed_by(policy, datetime.date(2025, 1, 31)))
+               and (due := policy.due) and due <= datetime.date(2024, 12, 31)
+               for nth in range(policy.paid, policy.paid + policy.missed(datetime.date(2025, 1, 31)))
                if f"{anniversary(policy.issued, nth):%Y-%m}" == "2025-01")
     paid = sum(command.amount for command, policy in steps_of(commands_lived(3, POLICIES)) if command.kind == "premium"
                and f"{anniversary(policy.issued, policy.paid - 1):%Y-%m}" == "2025-01")
@@ -200,6 +206,25 @@ def test_a_chart_can_be_read_by_those_who_dont_see_it(window: Window) -> None:
         assert re.search(rf'class="middle axis"[^>]*>{name}', page), f"no axis is named {name}"
 
 
+@pytest.mark.timeout(1200)
+@pytest.mark.parametrize("seed", [11, 12])
+def test_charts_of_drawn_books(tools: Path, program: Program, tmp_path: Path, seed: int) -> None:
+    """Two more books, by a basis that begins after some of their policies, which therefore have no value."""
+    drawn = Folder(tmp_path / "drawn", program)
+    drawn.path.mkdir()
+    drawn.write("journal.life", file_of(commands_lived(seed, 60)))
+    drawn.take("g.xml")
+    drawn.write("basis.csv", "2001-01-01,g.xml,400\n2012-01-01,g.xml,300\n")
+    with Window(tools, drawn.path) as window:
+        answer = first_page(window)
+        assert compared_year_ends(answer, drawn) > 0
+        compare_statuses(answer, drawn)
+        for label, names in (("Premiums due and received", ("due", "received")),
+                             ("Claims and maturities", ("claims", "maturities"))):
+            table = {f"{row[0]}, {name}": text for row in behind(answer, label) for name, text in zip(names, row[1:])}
+            assert told(answer.marks(label)) == table and any(cents(text) for text in table.values())
+
+
 # --- movements, groups and bases ---
 
 MOVEMENT = "on1=2021-12-31&p1={first}&on2=2022-12-31&p2={last}"
@@ -236,7 +261,7 @@ def test_a_line_of_a_movement_leads_to_its_policies(window: Window, lived: Folde
     for row in answer.rows("What moved")[1:]:
         link = next(each for each in answer.links() if "/moved?" in each and each.endswith(f"line={row[0].replace(' ', '+')}"))
         found = window.page(link)
-        assert f"{row[1]} policies of the line {row[0]}" in found.text
+        assert f"{row[1]} {'policy' if row[1] == '1' else 'policies'} of the line {row[0]}" in found.text
         if row[1] != "0":
             assert found.rows(f"Policies of the line {row[0]}", "tfoot")[0][1:] == row[2:]
 
@@ -269,7 +294,7 @@ def test_the_cells_of_the_exhibit_lead_to_what_they_count(window: Window, lived:
              and {"sheet": "exhibit", "group": "total"}.items() <= words_of(each).items()]
     seen = set()
     for link in links:
-        line = re.search("line=([^&]*)", link)[1].replace("+", " ")  # type: ignore[index]
+        line = re.findall("line=([^&]*)", link)[0].replace("+", " ")
         if line == "made paid up" or line in seen:
             continue
         seen.add(line)

@@ -1,7 +1,5 @@
 """Tests the window's door: an address that works once and is given only to its owner, a prefix that isn't shown to other
 servers of the machine, limits of connections and time, hostile requests, and what a killed window left."""
-from __future__ import annotations
-
 import hashlib
 import html
 import os
@@ -170,15 +168,6 @@ def test_a_folder_with_a_strange_name(tools: Path, table_q: Folder, name: bytes)
         for page in VISITED:
             answer = window.page(page)
             assert b"<b>bold" not in answer.body or "html" not in answer.headers["Content-Type"], page
-
-
-@pytest.fixture
-def office(table_q: Folder) -> Folder:
-    book = table_q.below("office")
-    for name in ("q.xml", "basis.csv"):
-        book.write(name, table_q.read(name))
-    book.post("1,issue,7001,2020-01-01,endowment,0,3,1000.00,400.00\n")
-    return book
 
 
 def tells_no_path(answer: Answer, office: Folder) -> None:

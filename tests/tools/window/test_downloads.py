@@ -1,6 +1,4 @@
 """Tests the downloads of a window: they add up to what the program prints, and no cell of them begins a formula."""
-from __future__ import annotations
-
 import csv
 import io
 import re
@@ -22,7 +20,6 @@ KEYS = ("plan", "status", "issue-year", "age-band", "basis-row")
 
 @pytest.fixture(scope="module")
 def strange(lived: Folder, tmp_path_factory: pytest.TempPathFactory) -> Folder:
-    """The book in a folder whose name would be a formula."""
     path = tmp_path_factory.mktemp("strange") / "=1+1"
     shutil.copytree(lived.path, path)
     return Folder(path, lived.program)

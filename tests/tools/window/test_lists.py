@@ -1,7 +1,5 @@
 """Tests that the lists of a window are the same before their orders are made, which is after the first page, and later; and
 that a list of an earlier position is that of a journal which ends there."""
-from __future__ import annotations
-
 import sqlite3
 from collections.abc import Iterator
 from contextlib import closing
@@ -30,7 +28,6 @@ def pages(path: Path, position: int) -> Iterator[Rows]:
 
 
 def ordered(path: Path) -> set[str]:
-    """Returns the columns for which an order is made."""
     with closing(tables.opened(str(path))) as database:
         assert isinstance(database, sqlite3.Connection)
         return {column for column in SORTED.values() if made_order(database, column)}

@@ -1,7 +1,4 @@
 """Tests that a window opens one book or several, only reads what it shows, and leaves nothing in its temporary folder."""
-from __future__ import annotations
-
-import fcntl
 import hashlib
 import os
 import re
@@ -20,13 +17,10 @@ pytestmark = pytest.mark.needs("python:flask")
 
 
 @pytest.fixture
-def two(lived: Folder, table_q: Folder) -> Folder:
+def two(lived: Folder, table_q: Folder, office: Folder) -> Folder:
     """A folder with a list of two books: the one with many kinds of postings, and one with a single policy."""
     shutil.copytree(lived.path, table_q.path / "one")
-    other = table_q.below("two")
-    for name in ("q.xml", "basis.csv"):
-        other.write(name, table_q.read(name))
-    other.post("1,issue,7001,2020-01-01,endowment,0,3,1000.00,400.00\n")
+    office.path.rename(table_q.path / "two")
     table_q.write("books.csv", "one,one,basis.csv\ntwo,two,basis.csv\n")
     return table_q
 
@@ -61,8 +55,7 @@ def test_a_book_in_use_is_only_read(tools: Path, two: Folder, tmp_path: Path) ->
     wrapped.write_text(f"import os, sys\nos.execvp('strace', ['strace', '-D', '-f', '-qq', '-o', {str(calls)!r}, '-e', "
                        "'trace=openat,unlink,unlinkat,rename,truncate,mkdir,chdir', sys.executable, '-B', "
                        f"{str(tools)!r}, *sys.argv[1:]])\n")
-    with open(two.path / "one" / "journal.life", "rb") as held:
-        fcntl.flock(held, fcntl.LOCK_EX)
+    with two.below("one").in_use():
         with Window(wrapped, two.path, ["--books", "books.csv"], temporary=tmp_path / "temporary") as window:
             for path in ("/1/", "/1/find", "/2/policy?number=7001&on=2021-01-01", "/1/audit", "/1/stands"):
                 window.page(path)

@@ -1,7 +1,5 @@
 """Tests which position a page shows: its header and footer name it, its address is tied to it, and the audit of a day is of
 that day's position."""
-from __future__ import annotations
-
 import csv
 import io
 import re
@@ -22,7 +20,6 @@ def position_of(lived: Folder, day: str) -> int:
 
 
 def named(answer: Answer, tag: str) -> int:
-    """Returns the position that the header or the footer names."""
     part = re.search(rf"<{tag}>.*?</{tag}>", answer.page, re.S)
     assert part
     found = re.search(r"position ([0-9,]+)", re.sub("<[^>]*>", " ", part[0]))
@@ -70,6 +67,8 @@ def test_the_audit_is_of_the_days_position(window: Window, lived: Folder) -> Non
     assert window.page(f"/1/seal.txt?at={hidden[0]}").body.decode() == lived.printed("seal", "--at", str(position))
     flags = window.page(f"/1/flags.csv?at={hidden[0]}").body.decode()
     assert flags == lived.tools("audit", "flags", "--at", str(position)).out
+    early = lived.tools("audit", "flags", "--at", "600").out
+    assert window.page("/1/flags.csv?at=600").body.decode() == early != flags
 
 
 def test_a_letter_of_each_drawn_policy_is_of_the_position(window: Window, lived: Folder) -> None:
@@ -80,7 +79,6 @@ def test_a_letter_of_each_drawn_policy_is_of_the_position(window: Window, lived:
 
 @pytest.fixture
 def copied(lived: Folder, tmp_path: Path) -> Folder:
-    """A copy of the book, which a test may change."""
     shutil.copytree(lived.path, tmp_path / "office")
     return Folder(tmp_path / "office", lived.program)
 
@@ -131,7 +129,7 @@ def test_a_journal_that_grew_is_the_same_one(tools: Path, copied: Folder) -> Non
         address = link_of(window.page("/1/"), "find")
         assert "4000000000" in window.page("/1/newest").text
         for path in ("/1/find", "/1/stands", address):
-            assert "isn't the one any more" not in window.page(path).text, path
+            assert "no longer the one" not in window.page(path).text, path
         assert window.page(address).rows("Policies") == before
 
 

@@ -1,6 +1,4 @@
 """Tests pages on paper, and at the usual width of a desk: what a person reads there, with amounts of nine digits and more."""
-from __future__ import annotations
-
 import base64
 import subprocess
 from pathlib import Path
@@ -42,11 +40,16 @@ def browser(tools: Path, office: Folder, tmp_path: Path) -> Iterator[Any]:
             shown.close()
 
 
-def words_on_paper(browser: Any, folder: Path) -> list[str]:
+def pages_on_paper(browser: Any, folder: Path) -> list[str]:
+    """Returns the text of each printed page, laid out as on paper."""
     made = browser.driver.execute_cdp_cmd("Page.printToPDF", {"preferCSSPageSize": True, "printBackground": True})
     (folder / "page.pdf").write_bytes(base64.b64decode(made["data"]))
     return subprocess.run(["pdftotext", "-layout", str(folder / "page.pdf"), "-"], check=True, capture_output=True,
-                          text=True).stdout.split()
+                          text=True).stdout.split("\f")
+
+
+def words_on_paper(browser: Any, folder: Path) -> list[str]:
+    return " ".join(pages_on_paper(browser, folder)).split()
 
 
 def test_the_statement_on_paper_and_on_a_screen(browser: Any, tmp_path: Path) -> None:
@@ -61,7 +64,25 @@ def test_the_statement_on_paper_and_on_a_screen(browser: Any, tmp_path: Path) ->
     assert "As it stood on" not in text
 
 
+def test_a_table_stays_a_table_on_paper(browser: Any, tmp_path: Path) -> None:
+    """The header of each table is one line, and its first and last row are on one page; so is a report of eleven columns."""
+    browser.open(browser.base + STATEMENT)
+    pages = pages_on_paper(browser, tmp_path)
+    for heads, rows in (("whole life endowment term", ("in force at the beginning", "in force at the end")),
+                        ("table interest method", ("CRVM mean", "total")),
+                        ("line policies premiums gross net", ("first-year premiums collected", "premium income")),
+                        ("line policies by lower bounds", ("reserve at the beginning", "reserve at the end"))):
+        page = next((each for each in pages if heads in " ".join(each.split())), "")
+        assert all(row in page for row in rows), f"{heads} isn't a line, or its rows are on several pages"
+    browser.open(f"{browser.base}/1/report?on=2020-12-31&p=24&measure=deficiency")
+    text = [" ".join(each.split()) for each in pages_on_paper(browser, tmp_path)]
+    assert any("1,088,888,892.48" in each and "printed by life" in each for each in text)
+    assert "Beside another basis" not in " ".join(text)
+
+
 def test_a_policy_on_paper_keeps_its_day(browser: Any, tmp_path: Path) -> None:
     browser.open(f"{browser.base}/1/policy?number=3&day=2021-01-20&on=2020-12-31")
     text = " ".join(words_on_paper(browser, tmp_path))
     assert "On 2021-01-20:" in text and "on 2020-12-31, terminal" in text and "position 24" in text
+    # the table under the chart is printed, although it is closed on the screen
+    assert "year anniversary lower bound upper bound" in text

@@ -1,6 +1,4 @@
 """Tests which program is used: for a program other than the tools' own no page, sheet or file has the mark of proof."""
-from __future__ import annotations
-
 import csv
 import io
 from pathlib import Path
@@ -20,31 +18,14 @@ PAGES = ("/1/", "/1/find", "/1/policy?number=7001&on=2021-01-01", "/1/report?on=
 
 
 @pytest.fixture
-def office(table_q: Folder) -> Folder:
-    """A book with only the policy whose reserve is computed by hand: 127.22 to 127.23 on 2021-01-01."""
-    book = table_q.below("office")
-    for name in ("q.xml", "basis.csv"):
-        book.write(name, table_q.read(name))
-    book.post("1,issue,7001,2020-01-01,endowment,0,3,1000.00,400.00\n")
-    return book
+def forger(office: Folder) -> Path:
+    return office.stand_in("\"$life\" \"$@\" | sed 's/127\\.2/927.2/g'")
 
 
 @pytest.fixture
-def forger(tmp_path: Path, program: Program) -> Path:
-    """A program that prints another reserve."""
-    path = tmp_path / "forger"
-    path.write_text(f"#!/bin/sh\n'{program.path}' \"$@\" | sed 's/127\\.2/927.2/g'\n")
-    path.chmod(0o755)
-    return path
-
-
-@pytest.fixture
-def other(tmp_path: Path, program: Program) -> Path:
+def other(office: Folder) -> Path:
     """A program other than the tools' own, which prints the same."""
-    path = tmp_path / "other"
-    path.write_text(f"#!/bin/sh\nexec '{program.path}' \"$@\"\n")
-    path.chmod(0o755)
-    return path
+    return office.stand_in('exec "$life" "$@"')
 
 
 @pytest.fixture
@@ -89,7 +70,7 @@ def test_a_program_that_changes_meanwhile_is_asked_no_more(tools_here: Path, off
         own.write_bytes(program.path.read_bytes())
         own.chmod(0o755)
         answer = window.get("/1/report?on=2021-01-01&measure=mean")
-        assert answer.status == 409 and "the program isn't the one any more" in answer.text
+        assert answer.status == 409 and "the program is no longer the one" in answer.text
 
 
 WORDS = {"report": ("report", "2021-01-01"), "statement": ("statement", "2020-12-31", "0", "2021-01-01", "1", "--mean"),

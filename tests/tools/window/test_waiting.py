@@ -1,7 +1,5 @@
 """Tests what waits for a person: rows that `day` holds back and rows that were refused are counted on the first page and
 listed."""
-from __future__ import annotations
-
 import os
 from pathlib import Path
 
@@ -13,13 +11,9 @@ from tests.support.windows import Window
 pytestmark = pytest.mark.needs("python:flask")
 
 
-def test_held_and_refused_rows(tools: Path, table_q: Folder) -> None:
+def test_held_and_refused_rows(tools: Path, office: Folder) -> None:
     """By hand: in the second file the first row has a day far in the future, so it is held; the second row names an unknown
     policy."""
-    office = table_q.below("office")
-    for name in ("q.xml", "basis.csv"):
-        office.write(name, table_q.read(name))
-    office.post("1,issue,7001,2020-01-01,endowment,0,3,1000.00,400.00\n")
     file = office.write("monday.csv", "1,issue,7002,2190-01-01,endowment,0,3,1000.00,400.00\n1,premium,7999,2020-01-01,400.00\n")
     os.utime(file, (0, 0))
     day = office.tools("day", "monday.csv")

@@ -1,7 +1,5 @@
 """Tests what a clerk, an administrator, an actuary, an auditor and an operator do in the window, in Chromium at the widths of
 a desk, a tablet and a phone, in light and dark. What the pages say is compared with what the program and the tools print."""
-from __future__ import annotations
-
 import json
 import re
 import shutil
@@ -36,7 +34,6 @@ class Book:
         return ended.out
 
     def tool(self, *words: str) -> tuple[str, str]:
-        """Returns what a tool prints; it is run once for each state of the journal."""
         key = self.folder.journal.stat().st_size, words
         if key not in self.told:
             ended = self.folder.tools(*words)
@@ -72,6 +69,7 @@ def office(tmp_path_factory: pytest.TempPathFactory, program: Program) -> Folder
     for name in ("q.xml", "g.xml"):
         folder.write(name, (EXAMPLES / name).read_bytes())
     folder.write("basis.csv", "1900-01-01,g.xml,400\n2020-01-01,q.xml,0\n2020-02-01,g.xml,400\n")
+    folder.write("other.csv", "1900-01-01,g.xml,300\n")
     small = (EXAMPLES / "small-office.csv").read_text()
     renumbered = re.sub(r"^(1,[a-z]+,)(1[1-7]),", r"\g<1>700\2,", small, flags=re.M)
     lines = [line for line in renumbered.splitlines() if ",7001," not in line]
@@ -115,7 +113,7 @@ def browser(request: pytest.FixtureRequest, window: Window) -> Iterator[Any]:
         shown.close()
 
 
-@pytest.mark.parametrize("way", ["clerk", "administrator", "actuary", "auditor", "operator"])
+@pytest.mark.parametrize("way", ["clerk", "administrator", "actuary", "auditor", "operator", "visitor"])
 def test_way(browser: Any, window: Window, book: Book, way: str) -> None:
     globals()[way](browser, book, f"http://127.0.0.1:{window.port}{window.root}")
     demand(browser.driver.get_cookies() and not browser.driver.execute_script("return document.cookie"),
@@ -343,9 +341,9 @@ def auditor(browser: Any, book: Book, base: str) -> None:
     browser.type("Audit of the day", YEAR_END)
     browser.press("Choose")
     position = book.tool("position-on", YEAR_END, "journal.life")[0].strip()
-    browser.says(f"All that follows is of position {apart(position)}, the book at the end of {YEAR_END}.")
+    browser.says(f"Everything below is of position {apart(position)}, the book at the end of {YEAR_END}.")
     browser.look("audit-of-a-day")
-    browser.type("Rows asked for", "20")
+    browser.type("Policies asked for", "20")
     browser.press("Draw")
     lines = book.tool("audit", "sample", "20", "--seed", "1", "--on", YEAR_END, "--at", position, "--mean")[0].splitlines()
     drawn = [line.split(",")[1:] for line in lines if line.startswith("row,")]
@@ -353,6 +351,32 @@ def auditor(browser: Any, book: Book, base: str) -> None:
     wanted = [[row[0], SAYS.get(row[1], row[1]), row[2], *map(apart, row[3:5])] for row in drawn]
     demand(browser.rows("The drawn rows") == wanted, "the sample is another one")
     browser.look("sample")
+
+
+def visitor(browser: Any, book: Book, base: str) -> None:
+    """Looks at the pages to which sums and charts lead, at empty lists, and at what is said of an address that is none."""
+    browser.open(f"{base}/1/bases?on={YEAR_END}&other=other.csv&number=7001")
+    browser.look("bases")
+    demand(len(browser.rows("Policy 7001 by both")) == 2, "one policy by both bases")
+    browser.open(f"{base}/1/report?on={YEAR_END}")
+    browser.press("endowment")
+    browser.says("by plan: endowment.")
+    browser.look("group")
+    browser.open(f"{base}/1/premiums?month=2022-01&what=due")
+    rows, total = browser.rows("Premiums due"), browser.rows("Premiums due", "tfoot")[0]
+    demand(len(rows) > 5 and sum(cents(row[2]) for row in rows) == cents(total[2]), f"the premiums of a month: {total}")
+    browser.look("premiums")
+    browser.open(f"{base}/1/postings?year=2024&kind=claim")
+    browser.look("postings")
+    browser.open(f"{base}/1/share?of=report&on={YEAR_END}")
+    browser.look("share")
+    for page, words in (("day/list?day=1995-01-01&what=mature", "There are none."), ("held", "There are none."),
+                        ("nothing", "There is no such page"),
+                        ("policy?number=4000000", "there is no policy 4000000 at position")):
+        browser.open(f"{base}/1/{page}")
+        browser.says(words)
+        browser.look("empty")
+        demand("Month and year" in browser.driver.find_element("tag name", "nav").text, f"{page} has no menu")
 
 
 def operator(browser: Any, book: Book, base: str) -> None:
@@ -365,7 +389,7 @@ def operator(browser: Any, book: Book, base: str) -> None:
     demand([(row[0].rpartition("/")[2], *row[2:]) for row in backups] == [("no.backup", apart(str(book.begun)), "yes")],
            f"backups: {backups}")
     browser.open(base + "/1/report?on=2022-02-31")
-    browser.says("on: 2022-02-31 is no day YYYY-MM-DD from 1900-01-01 to 2199-12-31")
+    browser.says("Day: 2022-02-31 is no day YYYY-MM-DD from 1900-01-01 to 2199-12-31")
     browser.look("told")
     browser.open(base + "/1/")
     body = browser.driver.find_element("tag name", "body")

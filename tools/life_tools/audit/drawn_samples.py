@@ -10,10 +10,10 @@ from life_tools.valuations.class_bases import Bases
 from life_tools.journal.day_columns import number_at
 from life_tools.valuations.joined_rows import read_both
 from life_tools.common.formats import demand, money
-from life_tools.journal.policy_columns import CODE_OF_STATUS
 from life_tools.valuations.printed_columns import ColumnValuation, Rows, StatePolicies
 from life_tools.audit.samples import BY, MEASURED, Head, Numbers, Sample, sample_from
 from life_tools.audit.sampling import Draw, draw
+from life_tools.rules.tables import CODE_OF_STATUS
 
 
 class Drawable(NamedTuple):
@@ -40,7 +40,7 @@ class Drawn:
                  f"all; the interval is {money(drawn.total // drawn.asked)}",
                  f"rows of at least the interval, which are drawn for certain: {drawn.certain}",
                  f"rows of 0, which can't be drawn: {drawn.nothing}"]
-        return lines + ([f"of these {self.words} have a word in place of a reserve"] if self.words else [])
+        return lines + ([f"of these {self.words} have no reserve, as a word in its place says"] if self.words else [])
 
 
 def drawable_of(valuation: ColumnValuation, policies: StatePolicies, by: str) -> Drawable:

@@ -1,11 +1,4 @@
-"""Flags postings that people should look at: the rules accepted them, but they are rare or doubtful.
-
-- `soon-after-reinstatement`: a claim within a year of a reinstatement;
-- `on-last-day`: a claim on the very day of the policy's previous posting, such as a death that was reported late;
-- `paid-at-once`: a claim that is settled to the cent on its own day;
-- `last-day-of-right`: a reinstatement on the last day on which it was possible;
-- `late-maturity`: a maturity long after the end of the term.
-"""
+"""Flags postings that people should look at: the rules accepted them, but they are rare or doubtful."""
 from __future__ import annotations
 
 import datetime
@@ -16,14 +9,20 @@ from typing import Iterator, NamedTuple
 from life_tools.common.arrays import Array, np
 from life_tools.journal.columns import Columns, columns_at
 from life_tools.rules.commands import Command
-from life_tools.journal.day_columns import FIRST, NEVER, anniversaries, years_at
+from life_tools.journal.day_columns import FIRST, anniversaries, years_at
 from life_tools.journal.records import CLAIM, MATURE, REINSTATE, SETTLE
 from life_tools.common.progress import Progress
-from life_tools.rules.policies import REINSTATEMENT_ANNIVERSARIES, Policy, anniversary, changed, end_of, issued
+from life_tools.rules.policies import Policy, anniversary, changed, end_of, issued
+from life_tools.rules.tables import NEVER, REINSTATEMENT_ANNIVERSARIES
 
-FLAGS = ("soon-after-reinstatement", "on-last-day", "paid-at-once", "last-day-of-right", "late-maturity")
-SOON, ON_LAST_DAY, AT_ONCE, LAST_DAY_OF_RIGHT, LATE = FLAGS
 DAYS_LATE = 90
+# each flag, and which postings have it
+FLAGS = {"soon-after-reinstatement": "a claim within a year of a reinstatement",
+         "on-last-day": "a claim on the very day of the policy's previous posting, such as a death that was reported late",
+         "paid-at-once": "a claim that is settled to the cent on its own day",
+         "last-day-of-right": "a reinstatement on the last day on which it was possible",
+         "late-maturity": f"a maturity more than {DAYS_LATE} days after the end of the term"}
+SOON, ON_LAST_DAY, AT_ONCE, LAST_DAY_OF_RIGHT, LATE = FLAGS
 LONGEST_YEAR = 366
 DAY = datetime.timedelta(1)
 

@@ -102,8 +102,8 @@ def lines_of(told: Mapping[str, str]) -> list[tuple[str, str]]:
     found.append(("Premiums paid", told["premiums paid"] + (f", up to {told['paid up to']}" if told["paid up to"] else "")))
     if told["premium in arrears"]:
         found.append((UNPAID, f"{apart(told['premium in arrears'])} since {told['next premium due']}"))
-    elif told["next premium due"]:
-        found.append(("Next premium due", told["next premium due"]))
+    elif told["status"] == "inforce":
+        found.append(("Next premium due", told["next premium due"] or "none: all premiums are paid"))
     found.append(("Insured", cover_in_words(told)))
     if told["outstanding"] != "0.00":
         found.append(("Still to be paid to you", apart(told["outstanding"])))

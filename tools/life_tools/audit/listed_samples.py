@@ -9,8 +9,7 @@ from __future__ import annotations
 from dataclasses import replace
 from typing import Iterator
 
-from life_tools.books.lists import ALL
-from life_tools.common.formats import MEASURES, demand, read_whole
+from life_tools.common.formats import ALL_BOOKS, MEASURES, demand, read_whole
 from life_tools.audit.samples import (HEAD, MOST_SAMPLE_BYTES, Numbers, Sample, head_in, head_of, is_listed, is_sample,
                                       numbers_in, numbers_told, rows_in, sample_from, text_of_row)
 
@@ -21,7 +20,7 @@ Parts = dict[str, Sample]
 def lines_of(parts: Parts) -> Iterator[str]:
     """Yields the text of a sample that has a part for each book."""
     first = next(iter(parts.values()))
-    yield ",".join([ALL, *numbers_told(first), str(first.on), first.measure])
+    yield ",".join([ALL_BOOKS, *numbers_told(first), str(first.on), first.measure])
     for name, part in parts.items():
         yield f"{name},{head_of(part)}"
         yield from (f"{name},{text_of_row(row)}" for row in part.rows)
@@ -50,7 +49,7 @@ def blocks_in(lines: list[str]) -> dict[str, list[str]]:
     for line in lines:
         name, _, rest = line.partition(",")
         if rest.startswith("0,value,"):
-            demand(name not in blocks and name != ALL, f"the name {name} stands twice")
+            demand(name not in blocks and name != ALL_BOOKS, f"the name {name} stands twice")
             blocks[name] = []
         demand(blocks and name == next(reversed(blocks)), f"{line[:200]} does not follow the first line of its book")
         blocks[name].append(rest)

@@ -11,8 +11,7 @@ import datetime
 from dataclasses import dataclass
 from typing import NamedTuple, Sequence
 
-from life_tools.books.lists import ALL
-from life_tools.common.formats import MOST_NUMBER, Wrong, day_in, demand, measure_of, money, number_of, read_whole
+from life_tools.common.formats import ALL_BOOKS, MOST_NUMBER, Wrong, day_in, demand, measure_of, money, number_of, read_whole
 from life_tools.valuations.printed_books import ValuedRow, row_of
 from life_tools.tables.basis import NAME
 
@@ -73,7 +72,7 @@ def is_sample(rows: Sequence[Sequence[str]]) -> bool:
 
 def is_listed(line: str) -> bool:
     """Returns whether a first line is that of a sample of many books."""
-    return line.split(",")[:2] == [ALL, "sample"]
+    return line.split(",")[:2] == [ALL_BOOKS, "sample"]
 
 
 class Head(NamedTuple):

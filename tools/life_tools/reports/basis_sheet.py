@@ -6,9 +6,10 @@ from life_tools.valuations.class_columns import PlacedRow, picked
 from life_tools.common.formats import money
 from life_tools.valuations.groups import added
 from life_tools.reports.periods import Moment, Period, demand_whole
-from life_tools.journal.policy_columns import MADE_PAIDUP, is_insured
+from life_tools.journal.policy_columns import is_insured
 from life_tools.valuations.printed_columns import NO_WORDS, ColumnValuation
 from life_tools.reports.sheets import COUNT, TEXT, Column, Sheet
+from life_tools.rules.tables import MADE_PAIDUP
 
 METHODS = {"terminal": "CRVM terminal", "mean": "CRVM mean"}
 PAID_UP_METHODS = {"terminal": "paid up terminal", "mean": "paid up mean"}
@@ -65,7 +66,7 @@ def demand_printed(moment: Moment, minimum: ColumnValuation, total: list[int], w
     printed = [*moment.valuation.total[:2], minimum.total[3] - minimum.total[1]]
     demand_whole(total[2:] == printed, f"reserves: the sums are {total[2:]} cents, and {printed} are printed")
     demand_whole(without == moment.valuation.words == minimum.words,
-                 f"reserves: {without} policies have a word, and {moment.valuation.words} are printed")
+                 f"reserves: {without} policies have no value, and {moment.valuation.words} are printed so")
 
 
 def deficiency_notes(period: Period, minimum: ColumnValuation) -> list[str]:

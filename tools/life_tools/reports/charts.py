@@ -14,11 +14,13 @@ from life_tools.reports.drawing import Unit, unit_for
 from life_tools.reports.report_pages import apart, money
 
 WIDTH, HEIGHT = 720, 320
-LEFT, RIGHT, TOP, BOTTOM = 96, 12, 14, 52
+LEFT, RIGHT, TOP, BOTTOM = 108, 12, 18, 72
+# where the name of the vertical axis stands
+NAMED = 18
 # an axis has about STEPS steps, and a step is one of ROUND times a power of ten
 ROUND, STEPS = (1, 2, 5, 10), 4
-# the greatest width of a letter of a label
-LETTER = 8
+# the greatest width of a letter of a label, and on a narrow page, where the style sheet enlarges it
+LETTER, LARGE = 8, 13
 COUNTED = Unit(1, "")
 
 
@@ -132,20 +134,24 @@ def frame(axes: Axes, scale: Scale) -> list[str]:
     parts += labels_of(axes.labels)
     parts.append(text((LEFT + WIDTH - RIGHT) / 2, HEIGHT - 10, axes.across, "middle axis"))
     middle = (TOP + HEIGHT - BOTTOM) / 2
-    parts.append(f'<text x="14" y="{middle:.1f}" class="middle axis" transform="rotate(-90 14 {middle:.1f})">'
+    parts.append(f'<text x="{NAMED}" y="{middle:.1f}" class="middle axis" transform="rotate(-90 {NAMED} {middle:.1f})">'
                  f"{escape(axes.up + scale.unit.words)}</text>")
     return parts
 
 
 def labels_of(labels: Sequence[str]) -> list[str]:
-    """Returns as many labels as fit side by side; on a narrow page the style sheet hides every second one."""
-    widest = max(map(len, labels), default=1) * LETTER + 14
-    every = max(-(-int(len(labels) * widest) // (WIDTH - LEFT - RIGHT)), 1)
+    """Returns as many labels as fit side by side; if the larger ones of a narrow page don't, the style sheet hides every second
+    one there."""
+    letters = max(map(len, labels), default=1)
+    every = max(-(-int(len(labels) * (letters * LETTER + 14)) // (WIDTH - LEFT - RIGHT)), 1)
+    is_crowded = len(labels) * (letters * LARGE + 6) > every * (WIDTH - LEFT - RIGHT)
     parts = []
     for at, label in enumerate(labels):
         if at % every == 0:
-            x = min(middle_of(at, len(labels)), WIDTH - widest / 2)
-            parts.append(text(x, HEIGHT - BOTTOM + 18, label, "middle minor" if at // every % 2 else "middle"))
+            # a label ends within the picture, and begins right of the amounts
+            x = min(max(middle_of(at, len(labels)), LEFT + letters * LETTER / 2), WIDTH - letters * LETTER / 2)
+            is_minor = is_crowded and at // every % 2
+            parts.append(text(x, HEIGHT - BOTTOM + 18, label, "middle tick minor" if is_minor else "middle tick"))
     return parts
 
 

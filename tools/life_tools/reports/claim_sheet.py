@@ -4,22 +4,23 @@ from __future__ import annotations
 from typing import Iterator
 
 from life_tools.journal import records as kinds
-from life_tools.journal import policy_columns as statuses
 from life_tools.common.arrays import Array, np
-from life_tools.journal.day_columns import NEVER, texts_at
+from life_tools.journal.day_columns import texts_at
 from life_tools.common.formats import STATUSES, money
 from life_tools.valuations.groups import added
 from life_tools.reports.periods import Moment, NotWhole, Period, demand_whole
 from life_tools.journal.policy_columns import Policies
 from life_tools.reports.posted_steps import Steps
 from life_tools.reports.sheets import COUNT, TEXT, Column, Sheet
+from life_tools.rules import tables
+from life_tools.rules.tables import NEVER
 
 BEGINNING, REPORTED, SETTLED, END = LINES = ("outstanding at the beginning", "reported", "settled", "outstanding at the end")
 # the upper limits of the classes of age, in days since the report, and their names
 AGES = ((-1, "reported after the day"), (30, "up to 30 days"), (90, "31 to 90 days"), (365, "91 to 365 days"),
         (10**6, "more than 365 days"))
 CLAIM, MATURITY = "claimed", "matured"
-CODES = {CLAIM: statuses.CLAIMED, MATURITY: statuses.MATURED}
+CODES = {CLAIM: tables.CLAIMED, MATURITY: tables.MATURED}
 KINDS = ("claim", "mature")
 
 
@@ -42,7 +43,7 @@ class Claims:
                 self.put(REPORTED, status, int(np.count_nonzero(mine)), int(steps.after.amount[mine].sum()))
             elif steps.kind == "settle":
                 mine = steps.before.status == code
-                settled = np.count_nonzero(mine & (steps.after.status == statuses.SETTLED))
+                settled = np.count_nonzero(mine & (steps.after.status == tables.SETTLED))
                 self.put(SETTLED, status, -int(settled), -int(steps.amount[mine].sum()))
         self.payments += len(steps) if steps.kind == "settle" else 0
 

@@ -2,13 +2,13 @@
 from __future__ import annotations
 
 from life_tools.common.arrays import Array, Cents, np
-from life_tools.rules.commands import PLAN_CODES
 from life_tools.common.formats import PLANS
 from life_tools.valuations.groups import added
 from life_tools.reports.periods import Moment, Period, demand_whole
-from life_tools.journal.policy_columns import EXPIRED, MADE_PAIDUP, Policies, is_in_grace, is_insured
+from life_tools.journal.policy_columns import Policies, is_insured
 from life_tools.reports.posted_steps import Steps
 from life_tools.reports.sheets import COUNT, TEXT, Column, Sheet
+from life_tools.rules.tables import EXPIRED, MADE_PAIDUP, PLAN_CODES, is_past_grace
 
 PAID_UP = "paid up"
 GROUPS = ("whole", "endowment", "term", "limited", PAID_UP)
@@ -99,7 +99,7 @@ def remarks(moment: Moment) -> list[str]:
     """Returns remarks on policies that are in force only by their status; each is counted under the first remark that applies."""
     of, insured = moment.policies, is_insured(moment.policies)
     later, ended = of.issued > moment.day, of.end <= moment.day
-    past = ~is_in_grace(of, np.full(len(of), moment.day, np.int32))
+    past = is_past_grace(of, moment.day)
     counted = {"issued after that day": later, "whose cover has ended, with no maturity posted": ended & ~later,
                "past the grace of an unpaid premium, with no lapse posted": past & ~ended & ~later}
     found = {says: int(np.count_nonzero(insured & each)) for says, each in counted.items()}

@@ -6,11 +6,10 @@ from typing import Iterator, cast
 
 from life_tools.common.arrays import Array, np
 from life_tools.journal.columns import Columns
-from life_tools.journal.day_columns import NEVER, texts_at
+from life_tools.journal.day_columns import texts_at
 from life_tools.common.formats import PLANS, STATUSES
-from life_tools.journal.policy_columns import INFORCE
-from life_tools.journal.record_texts import AT_ONCE, BOOKED, HELD, column_of, in_order
-from life_tools.rules.policies import GRACE
+from life_tools.journal.record_texts import AT_ONCE, HELD, column_of, in_order
+from life_tools.rules.tables import BOOKINGS, GRACE_DAYS, INFORCE, NEVER
 from life_tools.valuations.rows import TableRow
 
 CENTS_OF = ("amount", "premium")
@@ -37,9 +36,9 @@ def command_rows(book: Columns) -> Iterator[TableRow]:
 
 def booking_rows(book: Columns) -> Iterator[TableRow]:
     def made(kind: str, places: Array) -> Iterator[tuple[TableRow, ...]]:
-        if kind not in BOOKED:
+        if kind not in BOOKINGS:
             return (() for _ in places)
-        first, sign, second = BOOKED[kind]
+        first, sign, second, _ = BOOKINGS[kind]
         return (((position, first, sign * cents), (position, second, -sign * cents)) if cents else ()
                 for position, cents in zip((places + 1).tolist(), book.booked[places].tolist()))
 
@@ -62,7 +61,7 @@ def policy_rows(book: Columns) -> Iterator[TableRow]:
         # a policy with no premium to come gets some day here, which is not used
         next_due = np.where(is_awaited, due, of.end)
         awaited = [(day, grace) if each else (None, None)
-                   for each, day, grace in zip(is_awaited.tolist(), texts_at(next_due), texts_at(next_due + GRACE.days))]
+                   for each, day, grace in zip(is_awaited.tolist(), texts_at(next_due), texts_at(next_due + GRACE_DAYS))]
         names = [STATUSES[code - 1] for code in of.status.tolist()], [PLANS[code] for code in of.plan.tolist()]
         columns = (of.age, of.years, of.amount, of.premium)
         days = texts_at(of.last), texts_at(of.end), texts_at(np.where(is_paid, of.end, due))

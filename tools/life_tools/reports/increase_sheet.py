@@ -13,12 +13,13 @@ from life_tools.common.arrays import Array, Cents, np
 from life_tools.journal.day_columns import completed_years
 from life_tools.common.formats import money
 from life_tools.reports.periods import Moment, NotWhole, Period, demand_whole
-from life_tools.journal.policy_columns import MADE_PAIDUP, Policies, is_insured
+from life_tools.journal.policy_columns import Policies, is_insured
 from life_tools.reports.posted_steps import REPEATED, Steps, blocks_of
 from life_tools.valuations.printed_columns import NO_WORDS
 from life_tools.reports.reserve_cases import Cases
 from life_tools.reports.reserve_units import ONE, Units, cents
 from life_tools.reports.sheets import BY_BOUNDS, COUNT, TEXT, Column, Sheet
+from life_tools.rules.tables import MADE_PAIDUP
 
 OPENING, ROUNDING, CLOSING = "reserve at the beginning", "rounding", "reserve at the end"
 NET, INTEREST, COST, HELD = GROWN = "net premiums", "interest", "cost of insurance", "kept from falling below 0"

@@ -17,6 +17,7 @@ from life_tools.journal.policy_columns import Policies, change, issued_by, polic
 from life_tools.common.progress import Progress
 from life_tools.journal.replays import Rounds, stable_order
 from life_tools.rules.policies import changed
+from life_tools.rules.tables import Line
 
 # kinds that a policy can have many times in a row, and that change nothing of what is insured
 REPEATED = ("premium", "settle")
@@ -90,7 +91,7 @@ def carried(policies: Policies, records: Records, order: Array, place: Array) ->
 def step(policies: Policies, records: Records, kind: int, where: Array, places: Array) -> Steps:
     """Applies one command to each of some policies."""
     before, day, amount = policies.at(places), records.day[where], records.amount[where]
-    change(policies, places, before, kind, day, amount, records.premium[where])
+    change(policies, places, before, kind, Line(day, amount, records.premium[where]))
     return Steps(KINDS[kind], places, day, amount, before, policies.at(places))
 
 

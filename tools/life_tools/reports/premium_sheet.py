@@ -10,12 +10,12 @@ from life_tools.common.formats import money
 from life_tools.valuations.groups import added
 from life_tools.journal.records import ALTER, ISSUE, PREMIUM, REINSTATE
 from life_tools.reports.periods import Moment, NotWhole, Period, demand_whole
-from life_tools.journal.policy_columns import INFORCE, Policies, missed
+from life_tools.journal.policy_columns import Policies, missed_by
 from life_tools.reports.posted_steps import Steps, blocks_of
 from life_tools.journal.replays import stable_order
 from life_tools.reports.reserve_cases import Cases
 from life_tools.reports.reserve_units import Units, cents, summed
-from life_tools.rules.policies import GRACE
+from life_tools.rules.tables import GRACE_DAYS, INFORCE
 from life_tools.reports.sheets import COUNT, TEXT, Column, Sheet
 
 GRACE_LINE, PAST, ADVANCE = LINES = "uncollected in grace", "past grace and not lapsed", "paid in advance"
@@ -88,10 +88,10 @@ def parts_of(period: Period, moment: Moment) -> Parts:
     is_due = due <= moment.day
     place = np.flatnonzero((of.status == INFORCE) & (is_due | (ahead > 0)))
     of, due, ahead, is_due = of.at(place), due[place], ahead[place], is_due[place]
-    line = np.where(is_due, np.where(moment.day <= due + GRACE.days * is_due, LINES.index(GRACE_LINE), LINES.index(PAST)),
+    line = np.where(is_due, np.where(moment.day <= due + GRACE_DAYS * is_due, LINES.index(GRACE_LINE), LINES.index(PAST)),
                     LINES.index(ADVANCE))
     year = np.where(is_due, of.paid, of.paid - ahead)
-    premiums = np.where(is_due, missed(of, np.full(len(of), moment.day)), ahead)
+    premiums = np.where(is_due, missed_by(of, np.full(len(of), moment.day)), ahead)
     gross = premiums * of.premium
     gross[~is_due] = posted_ahead(period, moment, place[~is_due], of.at(~is_due), year[~is_due])
     return Parts(line, place, of.number, of.amount, np.where(is_due, due, anniversaries(of.issued, year)), year, premiums, gross,

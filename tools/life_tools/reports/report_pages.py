@@ -20,7 +20,7 @@ body { font: 16px/1.45 system-ui, sans-serif; color: #1b1f23; background: #fff; 
 h1 { font-size: 1.5rem; margin: .2rem 0 } h2 { font-size: 1.15rem; margin: 2rem 0 .5rem } p { margin: .4rem 0 }
 .facts { display: grid; grid-template-columns: repeat(auto-fit, minmax(14rem, 1fr)); gap: .6rem; margin: 1rem 0 }
 .facts div { background: #f3f6f9; border-radius: .4rem; padding: .6rem .8rem }
-.facts b { display: block; font-size: 1.1rem; font-variant-numeric: tabular-nums; white-space: nowrap }
+.facts b { display: block; font-size: 1.1rem; font-variant-numeric: tabular-nums; overflow-wrap: anywhere }
 dl { display: grid; grid-template-columns: max-content 1fr; gap: .1rem 1rem; font-size: .85rem; color: #57606a }
 dd { margin: 0; overflow-wrap: anywhere }
 .facts span { color: #57606a; font-size: .85rem }
@@ -28,6 +28,7 @@ dd { margin: 0; overflow-wrap: anywhere }
 table { border-collapse: collapse; width: 100%; font-size: .9rem; font-variant-numeric: tabular-nums }
 th, td { padding: .3rem .6rem; text-align: right; white-space: nowrap; border-bottom: 1px solid #d9dee3 }
 th:first-child, td:first-child { text-align: left } tr.total td { font-weight: 600; border-top: 2px solid #1b1f23 }
+@media print { tr { break-inside: avoid } tr.total { break-before: avoid } }
 .bars { margin: .6rem 0 }
 .bar { display: grid; grid-template-columns: minmax(6rem, 12rem) 1fr minmax(5rem, auto); gap: .6rem; align-items: center }
 .bar { font-size: .85rem; margin: .2rem 0 }
@@ -101,12 +102,12 @@ def page(title: str, provenance: dict[str, str], valuation: ColumnValuation, tot
     parts = [fact_list(provenance),
              "<p>Amounts in the journal's currency. The exact reserve lies between the lower and the upper bound. Bars are the "
              f"{escape(heads[-1])}, all to one scale.</p>", facts(valuation, total, heads)]
-    columns, last = ["policies", "insured", "amount insured", *heads, "words"], len(valuation.total) - 1
+    columns, last = ["policies", "insured", "amount insured", *heads, "without a value"], len(valuation.total) - 1
     for keys, groups in tables:
         parts.append(f"<h2>By {escape(', '.join(keys))}</h2>")
         parts.append(picture(groups, last, most_of(tables, last)))
         cells = [[", ".join(name), *map(apart, sums.cells())] for name, sums in groups.items()]
         parts.append(table([", ".join(keys), *columns], cells, ["total", *map(apart, total.cells())]))
-    parts += ["<h2>Words in place of bounds</h2>", words_of(valuation.rows), "<h2>Checks that were made</h2><ul>"]
+    parts += ["<h2>Policies without a value</h2>", words_of(valuation.rows), "<h2>Checks that were made</h2><ul>"]
     parts += [f"<li>{escape(each)}</li>" for each in checks]
     return whole_page(title, STYLE, provenance, [*parts, "</ul>"])

@@ -108,7 +108,8 @@ def fill(page: Any, sheet: Sheet, styles: Any, warning: str) -> None:
 
 
 def fit(page: Any) -> None:
-    """Scales a page to the width of a sheet of paper."""
+    """Scales a page to the width of a sheet of A4 paper."""
+    page.page_setup.paperSize = page.PAPERSIZE_A4
     page.page_setup.orientation, page.page_setup.fitToWidth, page.page_setup.fitToHeight = "landscape", 1, 0
     page.sheet_properties.pageSetUpPr = styles_of("worksheet.properties").PageSetupProperties(fitToPage=True)
 

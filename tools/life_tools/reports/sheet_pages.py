@@ -75,7 +75,7 @@ def section(sheet: Sheet) -> str:
 
 def page(title: str, facts: dict[str, str], sheets: Sequence[Sheet]) -> str:
     """Returns the whole page, which is printed in landscape format."""
-    says = ("What the program printed is proved; what was added to it is compared with its printed totals, as is said below each "
-            "sheet.") if UNPROVED not in facts else "What was added is compared with printed totals, as is said below each sheet."
+    proved = "What the program printed is proved. " if UNPROVED not in facts else ""
+    says = f"{proved}What was added is compared with printed totals, as the notes below each sheet say."
     parts = [fact_list(facts), f"<p>Amounts in the journal's currency. {says}</p>", *(section(sheet) for sheet in sheets)]
     return whole_page(title, STYLE, facts, parts, is_wide=True)

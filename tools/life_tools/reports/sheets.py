@@ -20,6 +20,8 @@ class Column(NamedTuple):
 
 # for amounts that are added up twice, from the lower and from the upper bounds of printed rows
 BY_BOUNDS = (Column("by lower bounds"), Column("by upper bounds"))
+# the columns of the bounds in a report, by how many bounds a row has
+HEADS = {2: ("lower bound", "upper bound"), 4: ("lower bound", "upper bound", "minimum, lower", "minimum, upper")}
 
 
 class Row(NamedTuple):

@@ -8,11 +8,25 @@ from life_tools.common.formats import FIRST_DAY, LAST_DAY, MOST_COMMANDS, Wrong,
 
 
 class BadRequest(Wrong):
-    """An argument of a request is not as it must be; the text says which one, and what is wanted."""
+    """An argument of a request is not as it must be; the text says which one, and how it must be."""
 
 
 # a longer text is not a number, a day or a name of anything here
 MOST_LETTERS = 40
+
+
+# what an argument is called on the pages, for messages
+LABELS = {"on": "Day", "on1": "Opening day", "on2": "Closing day", "before": "Day before", "day": "Day",
+          "asof": "As it stood on", "from": "Issued from", "to": "Issued to", "p": "Position", "p1": "Opening position",
+          "p2": "Closing position", "at": "Position", "after": "After position", "number": "Number of the policy",
+          "count": "Policies asked for", "seed": "Seed", "within": "Days", "measure": "Measure", "by": "By",
+          "other": "Other basis", "plan": "Plan", "status": "Status", "sort": "Sorted by", "order": "Order", "what": "What",
+          "month": "Month", "year": "Year", "kind": "Kind", "line": "Line", "group": "Group", "page": "Page", "of": "Page"}
+
+
+def label(name: str) -> str:
+    """Returns what an argument is called on the pages."""
+    return LABELS.get(name, shown(name))
 
 
 def shown(text: str) -> str:
@@ -27,14 +41,14 @@ class Asked:
         self.words: dict[str, str] = {}
         for name, text in words:
             if name in self.words:
-                raise BadRequest(f"{shown(name)} stands twice")
+                raise BadRequest(f"{label(name)} is in the address twice")
             self.words[name] = text.strip()
 
     def only(self, names: Sequence[str]) -> None:
         """Raises BadRequest if there is an argument that the page does not know."""
         for name in self.words:
             if name not in names:
-                raise BadRequest(f"{shown(name)} is no word of this page")
+                raise BadRequest(f"{shown(name)} is no argument of this page")
 
     def text(self, name: str) -> str:
         return self.words.get(name, "")
@@ -45,14 +59,14 @@ class Asked:
             return otherwise
         found = number_of(text, least, most)
         if found is None:
-            raise BadRequest(f"{name}: {shown(text)} is no whole number from {least} to {most}")
+            raise BadRequest(f"{label(name)}: {shown(text)} is no whole number from {least} to {most}")
         return found
 
     def position(self, name: str, newest: int, otherwise: int) -> int:
         text = self.text(name)
         found = number_of(text, 0, MOST_COMMANDS) if text else otherwise
         if found is None or found > newest:
-            raise BadRequest(f"{name}: {shown(text)} is no position of this book, which goes to {newest}")
+            raise BadRequest(f"{label(name)}: {shown(text)} is no position of this book, which goes to {newest}")
         return found
 
     def day(self, name: str, otherwise: datetime.date) -> datetime.date:
@@ -64,7 +78,7 @@ class Asked:
             return None
         found = day_of(text)
         if found is None:
-            raise BadRequest(f"{name}: {shown(text)} is no day YYYY-MM-DD from {FIRST_DAY} to {LAST_DAY}")
+            raise BadRequest(f"{label(name)}: {shown(text)} is no day YYYY-MM-DD from {FIRST_DAY} to {LAST_DAY}")
         return found
 
     def one_of(self, name: str, known: Sequence[str] | Mapping[str, object], otherwise: str = "") -> str:
@@ -72,12 +86,12 @@ class Asked:
         if not text:
             return otherwise
         if text not in known:
-            raise BadRequest(f"{name}: {shown(text)} is none of {', '.join(known)}")
+            raise BadRequest(f"{label(name)}: {shown(text)} is none of {', '.join(known)}")
         return text
 
     def digits(self, name: str, most: int) -> str:
         """Returns an argument that is part of a number, or ""."""
         text = self.text(name)
         if text and not (text.isascii() and text.isdigit() and len(text) <= most):
-            raise BadRequest(f"{name}: {shown(text)} is no number, and no part of one: up to {most} digits")
+            raise BadRequest(f"{label(name)}: {shown(text)} is no number, and no part of one: up to {most} digits")
         return text

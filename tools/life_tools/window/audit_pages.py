@@ -4,8 +4,10 @@ from __future__ import annotations
 import csv
 import datetime
 import os
+from collections import Counter
 from typing import Sequence
 
+from life_tools.audit.flags import FLAGS
 from life_tools.common.formats import MOST_COMMANDS, Wrong, money
 from life_tools.journal.day_columns import number_at
 from life_tools.valuations.printed_books import row_of
@@ -45,19 +47,26 @@ def verified(book: View) -> ToolRun:
 def audit(book: View, asked: Asked) -> Answer:
     """Returns the page on which a day is chosen; everything on it is of the position of that day."""
     asked.only(("at", "p", "on", "before"))
-    on = asked.day_or_none("on")
+    on, late = asked.day_or_none("on"), None
     if on is not None and not asked.text("p"):
         # the day's own position, the same that the page *Month and year* shows
-        book = book.at_position(book.history().position_on(number_at(on)))
-    history, before = book.history(), asked.day_or_none("before")
+        late = book.history().on_day(number_at(on))
+        book = book.at_position(late.first)
+    before = asked.day_or_none("before")
     if before is None and on is not None:
         before = datetime.date(on.year - 1, 12, 31) if on.year > 1900 else None
     seal, day = sealed(book), on or book.day
     values = {"seal": seal.printed, "download": book.link("seal.txt"), "whole": whole_or_why(book), "on": on, "day": day,
-              "before": before, "after": history.position_on(number_at(before)) if before else 0,
+              "before": before, "after": book.history().position_on(number_at(before)) if before else 0,
+              "late": late, "last_link": book.newest_link("audit", on=on, p=late.last, before=before) if late else "",
               "sizes": [(each, SIZE_WORDS[each]) for each in SIZES], "measures": list(MEASURES.items()),
               "measure": measure_on(str(day)), "view": book}
     return Page("audit.html", "Audit", values, of=book)
+
+
+def back_link(book: View, on: object) -> str:
+    """Returns the address of the audit of a day at this position, from which a list or a sample was asked for."""
+    return book.link("audit", on=on, p=book.at)
 
 
 def measure_on(day: str) -> str:
@@ -83,7 +92,7 @@ def seal_file(book: View, asked: Asked) -> Answer:
 # --- flags ---
 
 def flagged(book: View, asked: Asked) -> tuple[ToolRun, int]:
-    asked.only(("at", "p", "after"))
+    asked.only(("at", "p", "on", "after"))
     after = asked.position("after", book.at, 0)
     words = ["audit", "flags", "--after", str(after), "--at", str(book.at)]
     return tool_run(book, words, f"postings to look at, up to {book.at:,}"), after
@@ -100,8 +109,11 @@ def flags(book: View, asked: Asked) -> Answer:
     numeric = ("position", "policy", "amount")
     table = Table("Postings to look at", [Head(name, RIGHT if name in numeric else "") for name in names],
                   [[flag_cell(book, name, text) for name, text in zip(names, row)] for row in found[:MOST_SHOWN]], kind="list")
-    values = {"table": table, "count": len(found), "shown": min(len(found), MOST_SHOWN), "after": after, "remarks": run.remarks,
-              "csv": book.link("flags.csv", after=after or "")}
+    counts = Counter(row[0] for row in found)
+    kinds = Table("Flags", [Head("flag"), Head("which postings have it", "says"), Head("postings", RIGHT)],
+                  [cells((flag, says, counts[flag])) for flag, says in FLAGS.items()], [cells(("all", "", len(found)))])
+    values = {"table": table, "count": len(found), "shown": min(len(found), MOST_SHOWN), "after": after, "kinds": kinds,
+              "csv": book.link("flags.csv", after=after or ""), "back": back_link(book, asked.day_or_none("on"))}
     return Page("flags.html", "Postings to look at", values)
 
 
@@ -123,7 +135,7 @@ def drawn(book: View, asked: Asked) -> tuple[ToolRun, dict[str, object]]:
     asked.only(SAMPLE_WORDS)
     on = asked.day_or_none("on")
     if on is None:
-        raise BadRequest("on: the day of the valuation is wanted")
+        raise BadRequest("Day: type the day of the valuation")
     count, seed = asked.number("count", 1, MOST_ROWS, 50), asked.number("seed", 0, MOST_COMMANDS, 1)
     by = asked.one_of("by", SIZES, SIZES[0])
     measure = asked.one_of("measure", MEASURES, measure_on(str(on)))
@@ -146,10 +158,11 @@ def sample(book: View, asked: Asked) -> Answer:
                   [[policy_link(book, row[0], words), Cell(STATUS_WORDS[row[1]]), *cells(row[2:])]
                    for row in rows[:MOST_SHOWN]], kind="list")
     files = [(says, book.link(name, **words)) for says, name in (
-        ("The sample", "sample.txt"), ("Papers to print", "papers.html"), ("Letters to print", "letters.html"),
+        ("The sample as a file", "sample.txt"), ("Papers to print", "papers.html"), ("Letters to print", "letters.html"),
         ("Letters as CSV", "letters.csv"))]
     values = {"table": table, "count": len(rows), "shown": min(len(rows), MOST_SHOWN), "remarks": run.remarks, "words": words,
-              "files": files, "says": SIZE_WORDS[str(words["by"])], "of": MEASURES[str(words["measure"])]}
+              "files": files, "says": SIZE_WORDS[str(words["by"])], "of": MEASURES[str(words["measure"])],
+              "back": back_link(book, words["on"]), "file": named(words, "sample", "txt")}
     return Page("sample.html", f"Sample of {words['on']}", values)
 
 
@@ -160,7 +173,7 @@ def policy_link(book: View, number: str, words: dict[str, object]) -> Cell:
 
 def sample_file(book: View, asked: Asked) -> Answer:
     run, words = drawn(book, asked)
-    return File(f"sample-{words['on']}-{words['seed']}.txt", "text/plain", [run.printed])
+    return File(named(words, "sample", "txt"), "text/plain", [run.printed])
 
 
 def named(words: dict[str, object], what: str, ends: str) -> str:

@@ -235,8 +235,8 @@ class BookCopy:
         now = self.looked_at(f"journal {count}", lambda: [self.book.journal], lambda: prefix_sum(self.book.folder, count))
         if now == was:
             return ""
-        return (f"The journal isn't the one any more of which this window was opened. Its first {count:,} postings had the "
-                f"SHA-256 {was}; now {it_is(now)}. What is shown is of the copy.")
+        return (f"The journal is no longer the one with which this window was opened. Its first {count:,} postings had the "
+                f"SHA-256 {was}; now {it_is(now)}. The pages show the copy that the window made.")
 
     def basis_change(self) -> str:
         taken, folder = self.basis, self.book.folder
@@ -245,7 +245,7 @@ class BookCopy:
         if now == taken.sum:
             return ""
         return (f"The basis {taken.name} or a table of it changed: with its tables it had the SHA-256 {taken.sum}; now "
-                f"{it_is(now)}. What is shown is by the basis as it was.")
+                f"{it_is(now)}. The pages are by the basis as it was.")
 
     def looked_at(self, what: str, paths: Callable[[], list[str]], look: Callable[[], str]) -> str:
         """Returns what `look` finds about files, looked up again if they were written since, or why nothing can be found."""

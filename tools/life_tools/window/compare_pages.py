@@ -23,7 +23,7 @@ def other_in(book: View, asked: Asked) -> TakenBasis:
     """Returns the other basis in its present state in the book's folder."""
     name = asked.text("other")
     if not NAME.fullmatch(name) or name not in book.other_bases():
-        raise BadRequest(f"other: {shown(name) or 'nothing'} is no other basis in the book's folder")
+        raise BadRequest(f"Other basis: {shown(name) or 'nothing'} is no other basis in the book's folder")
     taken = book.copy.take_basis(name)
     demand(os.path.isfile(os.path.join(taken.folder, name)), f"{name} can't be read any more")
     return taken
@@ -108,7 +108,7 @@ def policy_pair(book: View, asked: Asked, one: Valuation, two: Valuation, names:
     for name, it in zip(names, (one, two)):
         found = row_of(it, number)
         if found is None:
-            raise BadRequest(f"number: the valuation has no row of policy {number}")
+            raise BadRequest(f"Number of the policy: the valuation has no row of policy {number}")
         bounds = (found.word, "") if found.word else tuple(map(money, found.bounds[-2:]))
         rows.append([Cell(name), *map(Cell, (str(found.year), *bounds))])
     return Table(f"Policy {number} by both", heads(("basis", "year", "lower bound", "upper bound")), rows)

@@ -3,7 +3,7 @@ from __future__ import annotations
 
 from itertools import islice
 
-from life_tools.cli.due import MOST_DAYS, WHATS
+from life_tools.reports.due_items import MOST_DAYS, WHATS
 from life_tools.reports.report_pages import money
 from life_tools.window.asked import Asked
 from life_tools.window.downloads import csv_parts

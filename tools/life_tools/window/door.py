@@ -84,15 +84,15 @@ class Door:
         """Returns why a request is refused whoever sends it, or None."""
         path = environ.get("PATH_INFO", "")
         if environ.get("HTTP_HOST") not in (f"127.0.0.1:{self.port}", f"localhost:{self.port}"):
-            return 403, f"This window is called 127.0.0.1:{self.port} or localhost:{self.port}.", []
+            return 403, f"This window has the addresses 127.0.0.1:{self.port} and localhost:{self.port}, and no other.", []
         if environ.get("REQUEST_METHOD") not in ("GET", "HEAD"):
-            return 405, "This window only looks: GET and HEAD.", [("Allow", "GET, HEAD")]
+            return 405, "This window only reads: it accepts GET and HEAD.", [("Allow", "GET, HEAD")]
         if len(path) + len(environ.get("QUERY_STRING", "")) > MOST_LETTERS:
             return 414, "No page has so long an address.", []
         if "//" in path:
             return 404, "No page has such an address.", []
         if not same(path[:len(self.prefix) + 1], f"{self.prefix}/"):
-            return 403, "Open the window by the address that life-tools browse gave.", []
+            return 403, "Open the window by the address that life-tools browse printed.", []
         return None
 
     def exchange(self, environ: Environment) -> Refused | None:
@@ -104,7 +104,7 @@ class Door:
             more = urlencode([each for each in words if each[0] != "token"])
             return self.let_in(tokens[0], quote(environ["PATH_INFO"]) + (f"?{more}" if more else ""))
         if not same(self.brought(environ), self.cookie):
-            return 403, "Open the window by the address that life-tools browse gave.", []
+            return 403, "Open the window by the address that life-tools browse printed.", []
         return None
 
     def let_in(self, token: str, page: str) -> Refused:
@@ -114,7 +114,7 @@ class Door:
             self.open_tokens = [each for each in self.open_tokens if each not in found]
             self.used_tokens += found
         if was_used:
-            return 403, ("This address was used already, and works once. If it wasn't you who used it, close the window; "
+            return 403, ("This address works once, and was used already. If somebody else may have used it, close the window; "
                          "life-tools browse opens another one."), []
         if not found:
             return 403, "That isn't this window's token.", []

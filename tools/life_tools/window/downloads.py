@@ -9,6 +9,7 @@ from typing import Any, Iterable, Iterator, Sequence
 from life_tools.common.cells import harmless, is_number, number_of_cell, put_text, write_rows
 from life_tools.common.packages import package
 from life_tools.common.program import UNPROVED
+from life_tools.reports.sheet_files import fit
 from life_tools.window.parts import File
 
 A_PART = 512
@@ -43,7 +44,8 @@ def workbook(sheets: Sequence[tuple[str, Sequence[Sequence[str]]]]) -> bytes:
 
 
 def shape(openpyxl: Any, sheet: Any, rows: Sequence[Sequence[str]]) -> None:
-    """Sets the widths of columns, a header that stays in view, and two decimals for amounts."""
+    """Sets the widths of columns, a header that stays in view, two decimals for amounts, and the width of a printed page."""
+    fit(sheet)
     for place in range(max((len(row) for row in rows), default=0)):
         widest = max(len(row[place]) for row in rows if len(row) > place)
         sheet.column_dimensions[openpyxl.utils.get_column_letter(place + 1)].width = min(max(widest * 1.3 + 2, 10), 60)

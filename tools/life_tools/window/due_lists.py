@@ -7,11 +7,12 @@ from dataclasses import dataclass
 from typing import Iterator
 
 from life_tools.common.arrays import Array, np
-from life_tools.journal.day_columns import NEVER, day_at, number_at
-from life_tools.cli.due import SENT, WHATS, Due, Items
+from life_tools.journal.day_columns import day_at, number_at
 from life_tools.common.formats import money
 from life_tools.journal.policy_columns import Policies, policies_in
+from life_tools.reports.due_items import SENT, WHATS, Due, Items
 from life_tools.rules.policies import Policy
+from life_tools.rules.tables import NEVER
 from life_tools.window.jobs import Job
 from life_tools.window.kept_columns import keep, kept
 from life_tools.window.views import View
@@ -27,7 +28,7 @@ SAYS = {
     "lapse": "No premium can be paid any more: the policy is in arrears.",
     "mature": "The insurance has ended, or ends within the days asked for.",
     "reinstate": "Lapsed, and can be put in force on the day for the amount.",
-    "settle": "Outstanding of a claim or a maturity.",
+    "settle": "What is still to be paid of a claim or a maturity.",
 }
 SORTED = {"policy": "number", "day": "day", "until": "until", "amount": "cents"}
 

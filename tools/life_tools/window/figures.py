@@ -9,8 +9,8 @@ from typing import NamedTuple, Sequence
 from life_tools.common.arrays import Array, Cents, np
 from life_tools.common.formats import demand, money, printed_cents
 from life_tools.journal.at_position import WORKERS
-from life_tools.journal.day_columns import NEVER, anniversaries, number_at
-from life_tools.journal.policy_columns import INFORCE, Policies, missed
+from life_tools.journal.day_columns import anniversaries, number_at
+from life_tools.journal.policy_columns import Policies, missed_by
 from life_tools.journal.records import CLAIM, MATURE, PREMIUM, REINSTATE
 from life_tools.valuations.class_bases import measure_words
 from life_tools.valuations.groups import added
@@ -18,6 +18,7 @@ from life_tools.window.history import NO_DAY, History
 from life_tools.window.jobs import Job
 from life_tools.window.runs import printed_by
 from life_tools.window.views import View
+from life_tools.rules.tables import INFORCE, NEVER
 
 MOST_YEARS, MONTHS_BEFORE, MONTHS_AHEAD = 12, 18, 3
 RECEIVED = (PREMIUM, REINSTATE)
@@ -89,7 +90,7 @@ def paid_installments(history: History) -> Installments:
 def unpaid_installments(of: Policies, until: int) -> Installments:
     """Returns the unpaid premiums, due up to a day, of policies that are in force by their status."""
     place = np.flatnonzero((of.status == INFORCE) & (of.due != NEVER) & (of.due <= until))
-    count = missed(of.at(place), np.full(len(place), until, np.int32)).astype(np.int64)
+    count = missed_by(of.at(place), np.full(len(place), until, np.int32)).astype(np.int64)
     each = np.repeat(place, count)
     nth = np.arange(len(each)) - np.repeat(np.cumsum(count) - count, count)
     due = anniversaries(of.issued[each], of.paid[each] + nth)

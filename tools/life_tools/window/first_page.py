@@ -91,8 +91,8 @@ def premium_picture(book: View, figures: Figures) -> Picture | None:
     rows = [[Cell(month), Cell(money(one), one_link), Cell(money(other), other_link)] for month, one, other, one_link, other_link
             in zip(figures.months, figures.due, figures.received, due, received)]
     return Picture("Premiums due and received by month",
-                   "Due: by the month in which a premium fell due that was paid since, or is still unpaid of a policy in force; "
-                   "received: by the day of the posting. A premium may be paid 90 days before it is due.",
+                   "Due: in the month in which it fell due, each premium that was paid, or is unpaid on a policy in force. "
+                   "Received: in the month of its posting. A premium may be paid 90 days before it is due.",
                    charts.columns(says, charts.Axes("month", figures.months, "premiums"), series),
                    Table(says, heads(("month", "due", "received")), rows))
 
@@ -125,7 +125,7 @@ def waiting_table(book: View, due: DueOn) -> Table:
             [Cell("refusals", book.link("refusals") if refused else ""), Cell("Rows of the last five files that were refused."),
              *cells((refused, ""))],
             [Cell("past grace", book.link("day/list", what="lapse", day=due.day) if lapses else ""),
-             Cell(f"In arrears on {due.day}, and no longer to be paid."), *cells((lapses, money(cents)))]]
+             Cell(f"In arrears on {due.day}, and the days of grace are over."), *cells((lapses, money(cents)))]]
     names = [Head("what"), Head("which", "says"), Head("count", RIGHT), Head("premiums", RIGHT)]
     return Table("What waits for a person", names, rows)
 
@@ -135,7 +135,7 @@ def by_status(book: View, kinds: Sequence[Kind]) -> Table:
              *cells((it.policies, money(it.cents)))] for it in kinds]
     total = sum(it.policies for it in kinds), money(sum(it.cents for it in kinds))
     return Table("Policies by plan and status", heads(("plan", "status", "policies", "amount"), 2), rows,
-                 [[Cell("all"), Cell(""), *cells(total)]])
+                 [[Cell("all"), Cell(""), *cells(total)]], kind="list")
 
 
 def posted(book: View) -> Table:

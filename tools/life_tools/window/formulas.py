@@ -128,7 +128,7 @@ class Steps:
                              row(number(annuity_due), sign("−"), whole(1))),
                         number(it.renewal)))
         self.limit(it)
-        self.say("What it is above the first year's, where it is: the excess",
+        self.say("Its excess over the net premium of the first year, or 0",
                  *equal(letter("E"), of("max", row(of("min", LEVEL, LIMIT), sign("−"), FIRST), whole(0)), number(it.excess)))
         self.say("The modified net premium",
                  *equal(letter("β"), over(row(BENEFITS, sign("+"), letter("E")), ANNUITY),
@@ -136,7 +136,7 @@ class Steps:
 
     def limit(self, it: InForce) -> None:
         benefits, annuity_due = it.limit.values_at(0)
-        taken = "which is less than (A), and stands for it" if it.most < it.renewal else "which isn't less than (A)"
+        taken = "which is less than (A), and takes its place" if it.most < it.renewal else "which isn't less than (A)"
         self.say(f"Its limit, whole life at age {self.policy.age + 1} on {it.limit.payments} premiums, {taken}",
                  *equal(LIMIT, over(number(benefits), number(annuity_due)), number(it.most)))
 
@@ -177,7 +177,7 @@ class Steps:
         short = "short of β" if gross < it.modified else "not below β"
         self.say(f"The premium charged, of 1 insured: {short}",
                  *equal(letter("G"), over(amount(policy.premium), amount(policy.amount)), number(gross)))
-        self.say("Counting on the lesser of both, and not below the reserve: the minimum reserve of 1",
+        self.say("With the lesser of both premiums, and at least the reserve: the minimum reserve of 1",
                  *equal(sub("D", at), of("max", sub("V", at), row(sub("A", at), sign("−"), of("min", letter("β"), letter("G")),
                                                                   annuity(at))),
                         of("max", number(it.terminal(year)), row(number(benefits), sign("−"), number(counted), sign("·"),

@@ -12,7 +12,7 @@ from life_tools.window.asked import Asked, BadRequest, shown
 from life_tools.window.find_pages import policy_cell
 from life_tools.window.lists import A_PAGE
 from life_tools.window.month_pages import KEY_WORDS, MOVEMENT_WORDS, asked_movement, asked_valuation, column_names
-from life_tools.window.parts import RIGHT, Answer, Cell, Head, Page, Table, cells, heads
+from life_tools.window.parts import RIGHT, Answer, Cell, Head, Page, Table, cells, counted_policies, heads
 from life_tools.window.policies import STATUSES as STATUS_WORDS
 from life_tools.window.valuations import Valuation
 from life_tools.window.views import View, paged_words, turns
@@ -33,7 +33,7 @@ def group(book: View, asked: Asked) -> Answer:
     it = asked_valuation(book, asked, "by", "group", "page")
     name = tuple(asked.text("group").split(","))
     if name not in it.groups[key]:
-        raise BadRequest(f"group: {shown(asked.text('group'))} is no group by {KEY_WORDS[key]} of this valuation")
+        raise BadRequest(f"Group: {shown(asked.text('group'))} is no group by {KEY_WORDS[key]} of this valuation")
     places = np.flatnonzero(it.codes(key) == list(it.groups[key]).index(name))
     page, pages, some = paged(asked, len(places))
     words: dict[str, object] = {"on": it.on, "measure": it.measure, "by": key, "group": ",".join(name)}
@@ -81,8 +81,8 @@ def moved(book: View, asked: Asked) -> Answer:
     total = [Cell("all"), *(Cell(money(sum(cents(row[place]) for row in found))) for place in (1, 2))]
     names = [Head("policy", RIGHT), *heads(("by lower bounds", "by upper bounds"), 0)]
     values = {"table": Table(f"Policies of the line {line}", names, shown_rows, [total], kind="list"),
-              "says": f"{len(found):,} policies of the line {line}, from {words[0]} at position {int(words[1]):,} to {words[2]} "
-                      f"at position {int(words[3]):,}.", "page": page, "pages": pages, "is_printed": False,
+              "says": f"{counted_policies(len(found))} of the line {line}, from {words[0]} at position {int(words[1]):,} "
+                      f"to {words[2]} at position {int(words[3]):,}.", "page": page, "pages": pages, "is_printed": False,
               "back": book.link("movement", **told),
               "turns": turns(lambda to: book.link("moved", **paged_words({**told, "line": line}, to)), page, pages)}
     return Page("group.html", f"Moved by: {line}", values)

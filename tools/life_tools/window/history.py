@@ -12,7 +12,8 @@ from life_tools.common.formats import demand
 from life_tools.journal.columns import Columns
 from life_tools.journal.day_columns import anniversaries
 from life_tools.journal.policy_columns import is_insured
-from life_tools.journal.records import ALTER, CLAIM, ISSUE, LAPSE, MATURE, PAIDUP, PREMIUM, REINSTATE
+from life_tools.journal.positions import OnDay, on_day
+from life_tools.journal.records import ALTER, CLAIM, ISSUE, LAPSE, MATURE, PAIDUP, PREMIUM, REINSTATE, UPGRADE
 from life_tools.journal.replays import stable_order
 
 # the kinds of postings after which a policy is insured, and those after which it no longer is; other kinds do not change this
@@ -48,6 +49,11 @@ class History:
         """Returns the days of the postings that have one."""
         found: Array = self.day[self.day != NO_DAY]
         return found
+
+    def on_day(self, day: int) -> OnDay:
+        """Returns the first and the last position of a day, and what each of them lacks or has too much."""
+        upgrades = np.flatnonzero(self.kind == UPGRADE)
+        return on_day(self.day, day, int(upgrades[0]) + 1 if len(upgrades) else 0)
 
     def position_on(self, day: int) -> int:
         """Returns the last position up to which every posting is of the day or an earlier one."""

@@ -43,7 +43,7 @@ class Job:
     def __init__(self, key: Hashable, title: str, work: Callable[[Job], Any]) -> None:
         self.key, self.title, self.work = key, title, work
         self.begun = time.monotonic()
-        self.doing = "waiting for what was asked before"
+        self.doing = "waiting for an earlier request"
         self.done = 0
         self.whole: int | None = None
         self.ended = threading.Event()
@@ -106,7 +106,7 @@ class Jobs:
             job = self.known.get(key)
             if job is None:
                 if len(self.waiting) >= MOST_WAITING:
-                    raise TooMuch(f"{MOST_WAITING} questions wait for the program already: ask again when they are answered")
+                    raise TooMuch(f"{MOST_WAITING} requests wait for the program already: ask again once they are answered")
                 job = Job(key, title, work)
                 self.known[key] = job
                 self.waiting.append(job)

@@ -47,16 +47,16 @@ def moment_of(book: View, asked: Asked) -> Answer:
     asked.only(names)
     to = asked.day_or_none("asof")
     if to is None:
-        raise BadRequest("asof: the day that is to be looked at is wanted")
+        raise BadRequest("As it stood on: type a day")
     if page and page not in KEPT:
-        raise BadRequest(f"page: {shown(page)} is no page of a day")
+        raise BadRequest(f"Page: {shown(page)} is no page of a day")
     newest = book.at_position(book.copy.newest)
     there = book.at_position(newest.history().position_on(number_at(to)))
     words: dict[str, object] = {name: asked.text(name) for name in KEPT.get(page, ())}
     if page in DAY_WORDS:
         words[DAY_WORDS[page]] = to
     if page in ("movement", "statement") and int(asked.text("p1") or 0) > there.at:
-        raise BadRequest(f"asof: at the end of {to} the book is at position {there.at:,}, before the opening one")
+        raise BadRequest(f"As it stood on: at the end of {to} the book is at position {there.at:,}, before the opening one")
     return Elsewhere(there.link(page, **words))
 
 

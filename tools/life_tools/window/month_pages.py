@@ -6,15 +6,12 @@ import datetime
 import re
 
 from life_tools.journal.day_columns import number_at
-from life_tools.cli.report import HEADS
 from life_tools.common.arrays import np
 from life_tools.common.formats import MEASURES
-from life_tools.journal.positions import on_day
-from life_tools.journal.records import UPGRADE
 from life_tools.reports.provenance import provenance
 from life_tools.reports.report_pages import apart, money
 from life_tools.common.revisions import revision
-from life_tools.reports.sheets import BY_BOUNDS
+from life_tools.reports.sheets import BY_BOUNDS, HEADS
 from life_tools.reports import charts
 from life_tools.window import pictures
 from life_tools.window.asked import Asked, BadRequest
@@ -44,10 +41,7 @@ def month(book: View, asked: Asked) -> Answer:
     asked.only(("at", "on", "before"))
     on = asked.day("on", year_end_before(book.day))
     before = asked.day("before", datetime.date(max(on.year - 1, 1900), 12, 31))
-    history = book.history()
-    upgrades = np.flatnonzero(history.kind == UPGRADE)
-    upgrade = int(upgrades[0]) + 1 if len(upgrades) else 0
-    positions, opening = (on_day(history.day, number_at(day), upgrade) for day in (on, before))
+    positions, opening = (book.history().on_day(number_at(day)) for day in (on, before))
     values = {"on": on, "before": before, "positions": positions, "opening": opening, "newest_day": book.day,
               "measures": [(each, MEASURE_WORDS[each]) for each in MEASURES], "statement_measure": measure_on(str(on)),
               "statement_measures": list(RESERVES.items()), "bases": book.other_bases()}
@@ -66,7 +60,7 @@ def asked_valuation(book: View, asked: Asked, *more: str) -> Valuation:
     asked.only((*REPORT_WORDS, *more))
     on = asked.day_or_none("on")
     if on is None:
-        raise BadRequest("on: the day of the valuation is wanted")
+        raise BadRequest("Day: type the day of the valuation")
     return kept_valuation(book, on, asked.one_of("measure", MEASURES, "terminal"))
 
 
@@ -162,10 +156,10 @@ def asked_movement(book: View, asked: Asked, *more: str) -> tuple[ToolRun, list[
     asked.only((*MOVEMENT_WORDS, *more))
     days = [asked.day_or_none(name) for name in ("on1", "on2")]
     if None in days:
-        raise BadRequest("on1, on2: the opening and the closing day are wanted")
+        raise BadRequest("Opening day, Closing day: type both")
     first, last = asked.position("p1", book.copy.newest, book.at), book.at
     if first > last:
-        raise BadRequest(f"p1: the opening position {first} is after the closing one, {last}")
+        raise BadRequest(f"Opening position: {first} is after the closing position, {last}")
     words, measure = [str(days[0]), str(first), str(days[1]), str(last)], asked.one_of("measure", RESERVES, "terminal")
     title = f"the movement from {words[0]} at {first:,} to {words[2]} at {last:,}"
     told = ["movement", *words, *measure_words(measure), "--basis", book.basis.name, "--policies", "OUT/policies.csv"]

@@ -80,6 +80,10 @@ def cells(texts: Iterable[object]) -> list[Cell]:
     return [Cell(apart(str(text))) for text in texts]
 
 
+def counted_policies(count: int) -> str:
+    return f"{count:,} {'policy' if count == 1 else 'policies'}"
+
+
 def heads(names: Sequence[str], left: int = 1) -> list[Head]:
     """Returns headers; the first `left` columns have words, the others numbers."""
     return [Head(name, "" if place < left else RIGHT) for place, name in enumerate(names)]

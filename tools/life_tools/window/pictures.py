@@ -7,8 +7,8 @@ from typing import Sequence
 from life_tools.reports.drawing import unit_for
 from life_tools.reports.report_pages import apart, money
 
-WIDTH, HEIGHT = 720, 300
-LEFT, RIGHT, TOP, BOTTOM = 128, 24, 16, 46
+WIDTH, HEIGHT = 720, 324
+LEFT, RIGHT, TOP, BOTTOM = 152, 24, 24, 70
 # the steps of an axis are one of these numbers times a power of ten
 ROUND = (1, 2, 5, 10)
 
@@ -49,11 +49,20 @@ class Curve:
         for cents in range(0, self.top + 1, self.step):
             y = self.up(cents)
             parts.append(f'<line class="grid" x1="{LEFT}" x2="{WIDTH - RIGHT}" y1="{y:.1f}" y2="{y:.1f}"/>')
-            parts.append(text(LEFT - 10, y + 5, apart(self.unit.told(cents)), "left"))
-        every = max(step_of(self.years), 1)
+            says = apart(self.unit.told(cents))
+            parts.append(text(LEFT - 10, y + 5, says.removesuffix(".00") if self.step >= self.unit.cents else says, "left"))
+        # twice or three times as many years as amounts, since their labels are short
+        every = step_of(-(-2 * self.years // 5))
         for year in range(0, self.years + 1, every):
             parts.append(text(self.across(year), HEIGHT - BOTTOM + 22, str(year), "middle"))
-        return parts
+        return parts + self.names()
+
+    def names(self) -> list[str]:
+        """Returns the names of both axes, with the unit of the amounts."""
+        middle = (TOP + HEIGHT - BOTTOM) / 2
+        return [text((LEFT + WIDTH - RIGHT) / 2, HEIGHT - 10, "policy year", "middle axis"),
+                f'<text x="22" y="{middle:.1f}" class="middle axis" transform="rotate(-90 22 {middle:.1f})">'
+                f"{escape('reserve' + self.unit.words)}</text>"]
 
     def mark(self) -> list[str]:
         found = [point for point in self.points if point[0] == self.chosen]

@@ -28,12 +28,12 @@ def policy(book: View, asked: Asked) -> Answer:
     asked.only(WORDS)
     number = asked.number("number", 1, MOST_NUMBER, 0)
     if not number:
-        raise BadRequest("number: the number of a policy is wanted")
+        raise BadRequest("Number of the policy: type the number of a policy")
     day, on = asked.day("day", book.today), asked.day_or_none("on")
     measure = asked.one_of("measure", MEASURES, "terminal")
     known = policy_at(book, number)
     if known is None:
-        raise BadRequest(f"number: there is no policy {number} at position {book.at:,}")
+        raise BadRequest(f"Number of the policy: there is no policy {number} at position {book.at:,}")
     reserve = reserve_of(book, known, on, measure) if on else {}
     values = {"policy": known.policy, "terms": terms_of(known.policy), "standing": standing_of(known.policy),
               "postings": postings_of(known), "day": day, "on": on, "measure": measure,
@@ -67,7 +67,7 @@ def reserve_of(book: View, known: Known, on: datetime.date, measure: str) -> dic
     valuation = kept_valuation(book, on, measure)
     row = row_of(valuation, known.policy.number)
     if row is None:
-        raise BadRequest(f"number: the valuation has no row of policy {known.policy.number}")
+        raise BadRequest(f"Number of the policy: the valuation has no row of policy {known.policy.number}")
     printed: ValuedRow = row
     names = ("lower bound", "upper bound", "minimum, lower", "minimum, upper")
     basis = read_basis(os.path.join(book.desk, book.basis.name))
@@ -97,4 +97,4 @@ def picture_of(book: View, known: Known, on: datetime.date | None) -> dict[str, 
                   [[*cells((place,)), Cell(str(day)), *cells(map(money, row.bounds) if not row.word else (row.word, ""))]
                    for place, (day, row) in enumerate(curve.rows)])
     drawn = pictures.Curve(points, chosen, says)
-    return {"picture": drawn.svg(), "unit": drawn.unit.words, "curve": table}
+    return {"picture": drawn.svg(), "curve": table}

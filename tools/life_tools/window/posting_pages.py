@@ -28,7 +28,7 @@ def month_in(asked: Asked) -> tuple[int, int]:
     text = asked.text("month")
     parts = MONTH.fullmatch(text)
     if not parts or not FIRST_DAY.year <= int(parts[1]) <= LAST_DAY.year:
-        raise BadRequest(f"month: {shown(text)} is no month YYYY-MM from {FIRST_DAY.year} to {LAST_DAY.year}")
+        raise BadRequest(f"Month: {shown(text)} is no month YYYY-MM from {FIRST_DAY.year} to {LAST_DAY.year}")
     first = datetime.date(int(parts[1]), int(parts[2]), 1)
     after = datetime.date(first.year + first.month // 12, first.month % 12 + 1, 1)
     return number_at(first), number_at(after) - 1
@@ -60,7 +60,7 @@ def due_page(book: View, asked: Asked, first: int, last: int) -> Answer:
     total = [Cell("all"), *cells((len(order),)), Cell(money(int(found.cents.sum()))), Cell("")]
     names = [Head("due"), Head("policy", RIGHT), Head("premium", RIGHT), Head("paid", "says")]
     says = (f"{len(order):,} fell due, {money(int(found.cents.sum()))} in all; {int(unpaid.sum()):,} of these, "
-            f"{money(int(found.cents[unpaid].sum()))}, aren't paid at this position.")
+            f"{money(int(found.cents[unpaid].sum()))}, not paid at this position.")
     values = {"table": Table("Premiums due", names, rows, [total], kind="list"), "says": says, "page": page, "pages": pages,
               "turns": turns(lambda to: book.link("premiums", month=month, what="due", page=to), page, pages)}
     return Page("postings.html", f"Premiums due in {month}", values)

@@ -47,8 +47,8 @@ class Unchanged:
         return seen.st_dev, seen.st_ino, seen.st_size, seen.st_mtime_ns
 
     def demand_same(self) -> None:
-        demand(self.look() == self.stamp, "the program isn't the one any more with which this window was opened: open another "
-               "window, which looks at it anew")
+        demand(self.look() == self.stamp, "the program is no longer the one with which this window was opened: open another "
+               "window, which checks it anew")
 
 
 # files that each run needs unchanged

@@ -62,7 +62,7 @@ def quiet_handler() -> Any:
     """Returns a request handler that keeps no log, since an address may contain the token."""
     serving: Any = importlib.import_module("werkzeug.serving")
 
-    class Handler(serving.WSGIRequestHandler):  # type: ignore[misc]
+    class Handler(serving.WSGIRequestHandler):  # type: ignore[misc] # werkzeug is imported late, so its type is Any
         timeout = WHOLE_REQUEST
         # each request has its own connection, so that bytes left by a refused request are never read as another one
         protocol_version = "HTTP/1.0"
@@ -80,7 +80,7 @@ def quiet_handler() -> Any:
 def server_class() -> Any:
     serving: Any = importlib.import_module("werkzeug.serving")
 
-    class Server(serving.ThreadedWSGIServer):  # type: ignore[misc]
+    class Server(serving.ThreadedWSGIServer):  # type: ignore[misc] # likewise
         # connections beyond the limit get an answer at once, and hold no resources
         request_queue_size = MOST_CONNECTIONS
         deadlines = Deadlines()

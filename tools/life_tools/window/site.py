@@ -14,7 +14,7 @@ from life_tools.common.program import UNPROVED, Program
 from life_tools.common.revisions import revision
 from life_tools.window import (audit_pages, compare_pages, day_pages, find_pages, first_page, group_pages, month_pages,
                                policy_pages, posting_pages, stand_pages, statement_lists, statement_pages)
-from life_tools.window.asked import Asked, BadRequest, shown
+from life_tools.window.asked import Asked, BadRequest, label, shown
 from life_tools.window.book_copy import BookCopy
 from life_tools.window.door import Application, Door
 from life_tools.window.downloads import warned
@@ -46,6 +46,11 @@ MENU = {"": "Book", "find": "Find", "day": "The day", "month": "Month and year",
 UNDER = {"policy": "find", "report": "month", "movement": "month", "statement": "month", "day/list": "day", "flags": "audit",
          "sample": "audit", "premiums": "", "postings": "", "held": "", "refusals": "", "group": "month", "moved": "month",
          "bases": "month", "statement/cell": "month"}
+# the page with the link to each file
+OF_FILE = {"day/list.csv": "day/list", "day/lines.csv": "day/list", "report.csv": "report", "report.xlsx": "report",
+           "movement.csv": "movement", "movement.xlsx": "movement", "movement-policies.csv": "movement",
+           "statement.csv": "statement", "statement.xlsx": "statement", "seal.txt": "audit", "flags.csv": "flags",
+           "sample.txt": "sample", "papers.html": "sample", "letters.csv": "sample", "letters.html": "sample"}
 # seconds after which a page reloads while it waits
 REFRESH = 1
 
@@ -108,17 +113,18 @@ class Site:
         return self.flask.Response(file_of_package(name), mimetype=kind)
 
     def shown(self, number: int, name: str) -> Any:
-        show = self.pages.get(name)
-        if show is None or not 1 <= number <= len(self.books):
+        if not 1 <= number <= len(self.books):
             return self.told(404, "There is no such page", "Go on from the book's first page.")
-        book = self.books[number - 1]
+        book, show = self.books[number - 1], self.pages.get(name)
+        if show is None:
+            return self.told(404, "There is no such page", "Go on from the book's first page.", book, name)
         try:
             book.open()
             asked = Asked(self.flask.request.args.items(multi=True))
             view = view_of(book, asked)
             return self.answered(view, name, show(view, asked), asked)
         except Working as working:
-            return self.waiting(book, working.job)
+            return self.waiting(book, working.job, name)
         except BadRequest as wrong:
             return self.told(400, "That can't be asked", str(wrong), book, name)
         except Gone as wrong:
@@ -152,7 +158,7 @@ class Site:
         """Returns the address of a page for somebody else on this machine, with its own token."""
         of = asked.text("of")
         if of not in PAGES:
-            raise BadRequest(f"of: {shown(of)} is no page")
+            raise BadRequest(f"Page: {shown(of)} is no page")
         page = view.link(of, **self.words_of(asked))
         return Page("share.html", "For a colleague", {"page": page, "address": self.door.invitation(page)})
 
@@ -191,18 +197,23 @@ class Site:
         response.headers["Refresh"] = f"{seconds}; url={self.root}{quote(request.path)}?{words}"
         return response
 
-    def waiting(self, book: BookCopy, job: Job) -> Any:
-        values = {"copy": book, "job": job, "is_file": "." in self.flask.request.path}
+    def waiting(self, book: BookCopy, job: Job, name: str) -> Any:
+        """Returns the page that is shown while work is done. A file comes as a download and leaves this page where it is, so the
+        page then has a link back."""
+        words = {word: text for word, text in self.flask.request.args.items(multi=True) if word != "sheet"}
+        back = address(self.root, book.number, OF_FILE[name], words) if name in OF_FILE else ""
+        values = {"copy": book, "job": job, "back": back}
         return self.again(self.rendered("working.html", "One moment", values, 202), REFRESH)
 
     def told(self, status: int, what: str, why: str, book: BookCopy | None = None, name: str = "") -> Any:
         """Returns a page with a reason, with the menu and with what was typed, so that it can be corrected."""
         values: dict[str, Any] = {"why": book.without_paths(why) if book else why, "copy": book, "status": status}
+        if book and book.positions:
+            values["menu"] = [(says, address(self.root, book.number, page, {}), page == UNDER.get(name, name))
+                              for page, says in MENU.items()]
         if book and book.positions and name in PAGES:
-            menu = [(says, address(self.root, book.number, page, {}), page == UNDER.get(name, name))
-                    for page, says in MENU.items()]
             typed = [(word, text) for word, text in self.flask.request.args.items(multi=True) if word != "at"]
-            values.update(menu=menu, typed=[(shown(word), text[:200]) for word, text in typed][:12],
+            values.update(typed=[(label(word), shown(word), text[:200]) for word, text in typed][:12],
                           action=address(self.root, book.number, name, {}), at=self.flask.request.args.get("at", "")[:20])
         return self.rendered("told.html", what, values, status)
 

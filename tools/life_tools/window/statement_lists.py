@@ -7,19 +7,20 @@ from dataclasses import dataclass
 from typing import Callable, Sequence
 
 from life_tools.common.arrays import Array, np
-from life_tools.journal.policy_columns import CODE_OF_STATUS, is_insured
+from life_tools.journal.policy_columns import is_insured
 from life_tools.journal.records import ALTER, CLAIM, ISSUE, LAPSE, MATURE, PAIDUP, PREMIUM, REINSTATE, SETTLE
-from life_tools.journal.policy_columns import TERM
 from life_tools.reports import claim_sheet, exhibits, premium_sheet
 from life_tools.reports.report_pages import apart, money
 from life_tools.window.asked import Asked, BadRequest, shown
 from life_tools.window.find_pages import policy_cell
 from life_tools.window.group_pages import paged
 from life_tools.window.history import History
-from life_tools.window.parts import RIGHT, Answer, Cell, Head, Page, Table, cells
+from life_tools.window.parts import RIGHT, Answer, Cell, Head, Page, Table, cells, counted_policies
+from life_tools.window.policies import STATUSES as STATUS_WORDS
 from life_tools.window.posting_pages import posted_cells
 from life_tools.window.statement_pages import TITLES, asked_words, written
 from life_tools.window.views import View, paged_words, turns
+from life_tools.rules.tables import CODE_OF_STATUS, TERM
 
 GROUP_OF = {title: group for group, title in exhibits.TITLES.items()}
 
@@ -45,7 +46,7 @@ def cell(book: View, asked: Asked) -> Answer:
     sheet, line, group = asked.one_of("sheet", TITLES, "exhibit"), asked.text("line"), asked.text("group")
     found = LISTS[sheet](book, words, line, group)
     if found is None:
-        raise BadRequest(f"line: {shown(line) or 'nothing'} is no line of this sheet behind which policies stand")
+        raise BadRequest(f"Line: {shown(line) or 'nothing'} is no line of this sheet that lists policies")
     page, pages, some = paged(asked, found.count)
     told: dict[str, object] = {**words, "sheet": sheet, "line": line, "group": group}
     total = [Cell("all"), *cells((found.count,)), *(Cell("") for _ in found.heads[3:]), Cell(money(found.cents))]
@@ -64,10 +65,12 @@ def policies_behind(book: View, chosen: Array, cents: Array, says: str) -> Behin
     of = book.policies()
 
     def rows(some: slice) -> list[list[Cell]]:
-        return [[policy_cell(book, int(of.number[place])), Cell(of.policy(place).status), Cell(money(int(cents[place])))]
+        return [[policy_cell(book, int(of.number[place])), Cell(STATUS_WORDS[of.policy(place).status]),
+                 Cell(money(int(cents[place])))]
                 for place in chosen[some].tolist()]
 
-    return Behind(f"{len(chosen):,} {says} at position {book.at:,}.", POLICY_HEADS, rows, len(chosen), int(cents[chosen].sum()))
+    return Behind(f"{counted_policies(len(chosen))} {says} at position {book.at:,}.", POLICY_HEADS, rows, len(chosen),
+                  int(cents[chosen].sum()))
 
 
 def in_force_behind(book: View, group: str) -> Behind:
@@ -75,7 +78,7 @@ def in_force_behind(book: View, group: str) -> Behind:
     mine = is_insured(of)
     if group in GROUP_OF:
         mine &= exhibits.groups_of(of) == exhibits.GROUPS.index(GROUP_OF[group])
-    return policies_behind(book, np.flatnonzero(mine), of.amount, "policies in force")
+    return policies_behind(book, np.flatnonzero(mine), of.amount, "in force")
 
 
 # --- postings between the positions ---
@@ -163,7 +166,7 @@ def behind_claims(book: View, words: dict[str, str], line: str, _: str) -> Behin
         of = at.policies()
         owed = np.isin(of.status, [CODE_OF_STATUS[each] for each in claim_sheet.CODES])
         places = np.flatnonzero(owed & (of.outstanding > 0))
-        return policies_behind(at, places, of.outstanding, "policies with something outstanding")
+        return policies_behind(at, places, of.outstanding, "with something outstanding")
     ages = [name for _, name in claim_sheet.AGES]
     if line not in ages:
         return None
@@ -184,7 +187,8 @@ def parts_behind(book: View, words: dict[str, str], sheet: str, is_of: Callable[
         return [[policy_cell(book, int(row["policy"])), *(Cell(apart(row[name])) for name in names), Cell(apart(row[column]))]
                 for row in found[some]]
 
-    return Behind(f"{len(found):,} policies.", heads, rows, len(found), sum(int(row[column].replace(".", "")) for row in found))
+    return Behind(f"{counted_policies(len(found))}.", heads, rows, len(found),
+                  sum(int(row[column].replace(".", "")) for row in found))
 
 
 def behind_increase(book: View, words: dict[str, str], line: str, bound: str) -> Behind | None:

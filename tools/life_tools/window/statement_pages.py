@@ -34,10 +34,10 @@ def asked_words(book: View, asked: Asked, *more: str) -> dict[str, str]:
     asked.only((*WORDS, *more))
     on1, on2 = asked.day_or_none("on1"), asked.day_or_none("on2")
     if on1 is None or on2 is None:
-        raise BadRequest("on1, on2: the opening and the closing day are wanted")
+        raise BadRequest("Opening day, Closing day: type both")
     first, last = asked.position("p1", book.copy.newest, book.at), book.at
     if first > last:
-        raise BadRequest(f"p1: the opening position {first} is after the closing one, {last}")
+        raise BadRequest(f"Opening position: {first} is after the closing position, {last}")
     measure = asked.one_of("measure", MEASURES, measure_on(str(on2)))
     return {"on1": str(on1), "p1": str(first), "on2": str(on2), "p2": str(last), "measure": measure}
 

@@ -83,7 +83,7 @@ def parts_of(path: str, doing: str, job: Job) -> Iterator[bytes]:
 
 
 def valued(book: View, on: datetime.date, measure: str, job: Job) -> Valuation:
-    job.at("copying the front of the journal")
+    job.at("copying the journal's prefix")
     with book.desk_at_position() as desk:
         job.at("life value")
         words = ["value", str(on), "--at", str(book.at), "--basis", book.basis.name, *measure_words(measure), *WORKERS]

@@ -152,7 +152,7 @@ def view_of(copy: BookCopy, asked: Asked) -> View:
     parts = AT.fullmatch(text) if text else None
     at = number_of(parts[1], 0, MOST_COMMANDS) if parts else copy.newest
     if text and (parts is None or at is None or at > copy.newest):
-        raise BadRequest(f"at: {shown(text)} is no position of this book, which goes to {copy.newest}")
+        raise BadRequest(f"Position: {shown(text)} is no position of this book, which goes to {copy.newest}")
     assert at is not None
     view = tied(copy, at, parts[2]) if parts and parts[2] else View(copy, at, copy.basis)
     for name in POSITIONS:
@@ -167,8 +167,8 @@ def tied(copy: BookCopy, at: int, tie: str) -> View:
         view = View(copy, at, basis)
         if view.tie == tie:
             return view
-    raise Gone(f"this page was of position {at:,} with the sum {tie} of journal and basis, and the window has it with "
-               f"{View(copy, at, copy.basis).tie}: the page can't be made any more")
+    raise Gone(f"this page was made of position {at:,} with the sum {tie} of journal and basis; the window has the sum "
+               f"{View(copy, at, copy.basis).tie} for that position, so the page can't be made any more")
 
 
 def paged_words(words: Mapping[str, object], to: int) -> dict[str, object]:

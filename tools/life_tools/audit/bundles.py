@@ -92,7 +92,7 @@ def bundle(title: str, told: Mapping[str, str], valuation: ColumnValuation, tota
            papers: Papers | None, bases: Sequence[str]) -> str:
     """Returns the whole page."""
     seal = [] if papers is None else ["<h2>Seal</h2>", f"<pre>{escape(text_of(papers.books[0].seal))}</pre>"]
-    columns = ["policies", "insured", "amount insured", *heads, "words"]
+    columns = ["policies", "insured", "amount insured", *heads, "without a value"]
     parts = [fact_list(told), "<p>Amounts in the journal's currency. The exact reserve lies between the lower and the upper "
              "bound. Each table adds up to the total that the program printed.</p>", facts(valuation, total, heads),
              *sheets(tables, total, columns), "<h2>Policies without a value</h2>", words_of(valuation.rows), *sampled(papers),
