@@ -3,8 +3,6 @@
 The tables in this folder have one entry for each change: `file`, `old` (a text that occurs in the file exactly once), `new`, and
 `test`, the arguments for pytest. `pytest -m mutants_ci` tries the entries with `ci = true`, and `pytest -m mutants` tries all.
 """
-from __future__ import annotations
-
 import os
 import shlex
 import shutil
@@ -23,6 +21,8 @@ TABLES = sorted(Path(__file__).parent.glob("*.toml"))
 COPIED = ("tests", "tools", "examples", "docs", ".ci", "bench", "life", "pyproject.toml", ".flake8", "crates.txt", "README.md",
           "CHANGELOG.md", "CONTRIBUTING.md", "SECURITY.md")
 FAILED = 1
+# how many entries CI tries, and how many there are at least
+CHOSEN, FEWEST = 20, 150
 
 
 def entries() -> Iterator[Any]:
@@ -50,6 +50,14 @@ def test_each_change_can_be_made(table: Path) -> None:
     for entry in tomllib.loads(table.read_text(encoding="utf-8"))["mutant"]:
         assert (ROOT / entry["file"]).read_text(encoding="utf-8").count(entry["old"]) == 1, entry
         assert entry["old"] != entry["new"] and (ROOT / shlex.split(entry["test"])[0].partition("::")[0]).exists(), entry
+
+
+def test_ci_tries_some_of_each_subject() -> None:
+    """CI tries twenty changes, and at least one of each table: a subject whose tests notice nothing is seen in each run."""
+    tables = {table.stem: tomllib.loads(table.read_text(encoding="utf-8"))["mutant"] for table in TABLES}
+    chosen = {name: sum(bool(entry.get("ci")) for entry in table) for name, table in tables.items()}
+    assert all(chosen.values()) and sum(chosen.values()) == CHOSEN, chosen
+    assert sum(map(len, tables.values())) >= FEWEST
 
 
 @pytest.mark.parametrize("entry", entries())
