@@ -1,6 +1,4 @@
 """Fixtures for the program under test and for folders of books, and checks that the machine has what a test needs."""
-from __future__ import annotations
-
 import hashlib
 import os
 from pathlib import Path
@@ -44,7 +42,6 @@ def pytest_collection_modifyitems(config: pytest.Config, items: list[pytest.Item
 
 
 def file_system(path: Path) -> str:
-    """Returns the kind of the file system that a path lies on."""
     with open("/proc/mounts", encoding="utf-8") as file:
         mounts = [line.split()[1:3] for line in file]
     holds = [(len(place), kind) for place, kind in mounts if path == Path(place) or Path(place) in path.parents]
@@ -77,7 +74,6 @@ def pytest_runtest_setup(item: pytest.Item) -> None:
 
 @pytest.fixture(scope="session")
 def root() -> Path:
-    """The folder of the clone."""
     return ROOT
 
 
@@ -102,7 +98,6 @@ def own_program() -> Iterator[None]:
 
 @pytest.fixture
 def folder(tmp_path: Path, program: Program, request: pytest.FixtureRequest) -> Folder:
-    """An empty folder for a book."""
     if request.node.get_closest_marker("real_disk") and file_system(tmp_path) in IN_MEMORY:
         lacks(f"{tmp_path} lies in memory: name a folder on a disk by --basetemp")
     return Folder(tmp_path, program)

@@ -8,8 +8,6 @@ usage: python3 -m tests.language above CRATE          the crates that a change o
 
 A NAME is a definition, such as life_app.specs.Headline.IsPromised, or a file of the code, such as life_app/src/program.rt.
 """
-from __future__ import annotations
-
 import argparse
 import sys
 from collections import defaultdict

@@ -5,8 +5,6 @@ arguments, its type is named by reached code, and the calling file knows the typ
 names has the type in its fields or its head. A method of a trait is also reached through its trait, or if its trait comes from
 outside the program. Types aren't inferred: if a file knows two types, a call of a method that both have reaches both methods.
 """
-from __future__ import annotations
-
 from collections import defaultdict
 from collections.abc import Iterable, Iterator
 from dataclasses import dataclass

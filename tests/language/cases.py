@@ -93,7 +93,6 @@ class Texts:
         return parsed(path.relative_to(CRATES).parts[0], path, self.code[path])
 
     def changed(self, path: Path, text: str) -> Texts:
-        """Returns the same texts with another text for one file."""
         other = copy.copy(self)
         if path in self.code:
             other.code = self.code | {path: text}
@@ -153,7 +152,6 @@ class Texts:
         return {self.imports[place].get(word, f"{place}.{word}") for place in places} & self.definitions.keys()
 
     def is_statement(self, word: str, places: frozenset[str]) -> bool:
-        """Returns whether a name means a type that isn't plain data."""
         return word[:1].isupper() and bool(self.keys_of(word, places)) and not self.is_data(word, places)
 
     def side(self, key: str, side: str) -> set[str]:
@@ -270,7 +268,6 @@ def built_by(texts: Texts, shown: list[conditions.Part]) -> set[str]:
 
 
 def held_by(texts: Texts, cases: set[str], built: set[str]) -> set[str]:
-    """Returns the definitions that the cases hold."""
     whole = {key for key in texts.under(cases, set()) if key.startswith(HOME) and re.search(r"\.specs\.Worked\w", key)}
     named = set().union(*(specs.named_in(texts.definitions[key], texts.imports, texts.definitions) for key in whole))
     asked = set().union(*(texts.side(key, "asked") for key in whole))
@@ -312,7 +309,6 @@ def empty_parts(text: str) -> list[str]:
 
 
 def told_empty(texts: Texts, keys: set[str]) -> list[str]:
-    """Returns what is wrong about these definitions: a part that says nothing."""
     wrong = []
     for key in sorted(keys):
         one = texts.definitions[key]

@@ -4,8 +4,6 @@ A reader of `A → B` has nothing of B before A is shown. A hypothesis is met if
 ones, for some values of its variables; `⊥` is never met. A binder is a hypothesis, too, unless its type is plain data, which has
 a value. In `A → B → ⊥`, B is denied and A is supposed; likewise in `A × B → ⊥`.
 """
-from __future__ import annotations
-
 import functools
 import re
 from collections.abc import Callable, Iterator
@@ -126,7 +124,6 @@ class Reader:
             self.read_factors(within)
 
     def asked(self, one: str, places: frozenset[str]) -> tuple[str, ...]:
-        """Returns what stands before an arrow, without plain data."""
         bound = binders(one)
         return tuple(bare(kind) for _, kind in bound if not self.is_data(kind, places)) if bound else (bare(one),)
 

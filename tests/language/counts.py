@@ -3,8 +3,6 @@
 tests/repository/promise.csv lists the clauses of the program and the definitions under them with their numbers of words, so that
 one that comes to say less is noticed. `python3 -m tests.language counts --write` writes the list anew.
 """
-from __future__ import annotations
-
 import csv
 import io
 

@@ -4,8 +4,6 @@ Each word of the type must be known: a type of the kit, a type of the code (whic
 such fields, a `data` of which a value can be made from such types, a name for such a type, or a type parameter of a function.
 Everything else is taken for a statement.
 """
-from __future__ import annotations
-
 import re
 from pathlib import Path
 
@@ -65,6 +63,5 @@ class PlainData:
 
 
 def without_values(code: dict[Path, str]) -> list[str]:
-    """Returns the enumerations of the code that have no value, by their files."""
     return [f"{path.relative_to(ROOT)} has {name}" for path, text in code.items() if "enum" in text
             for name in NO_VALUES.findall(statements.bare(text))]

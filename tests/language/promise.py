@@ -1,7 +1,5 @@
 """Collects what is public: the functions of each crate, and the definitions under the clauses of the program and of the other
 crates."""
-from __future__ import annotations
-
 from dataclasses import dataclass
 
 from . import specs, statements

@@ -1,6 +1,4 @@
 """Parses a source into its items: functions with their clauses, types, constants and imports."""
-from __future__ import annotations
-
 import functools
 import textwrap
 from collections.abc import Iterator
@@ -66,7 +64,6 @@ class Function:
 
     @property
     def place(self) -> str:
-        """The file and line, relative to the crate's folder."""
         return f"{self.file.relative_to(CRATES / self.crate).as_posix()}:{self.line}"
 
     @property
@@ -75,7 +72,6 @@ class Function:
 
     @property
     def parameters(self) -> list[list[Token]]:
-        """The tokens of each parameter, including `self`."""
         begin = next((at for at, one in enumerate(self.head) if one.text == "("), None)
         return [] if begin is None else arguments(self.head, begin)
 
@@ -113,8 +109,6 @@ class Named:
 
 @dataclass
 class Source:
-    """The items of one file of a crate."""
-
     crate: str
     file: Path
     uses: list[Use] = field(default_factory=list)
@@ -162,8 +156,6 @@ def used(tokens: list[Token]) -> Iterator[Use]:
 
 
 class Parser:
-    """Reads the items of one file."""
-
     def __init__(self, crate: str, file: Path, text: str) -> None:
         self.source, self.text = Source(crate, file), text
         self.all = tokens_of(text)
@@ -318,7 +310,6 @@ def parsed(crate: str, file: Path, text: str) -> Source:
 
 
 def source_of(file: Path) -> Source:
-    """Returns the items of a file of a crate."""
     return parsed(file.relative_to(CRATES).parts[0], file, file.read_text(encoding="utf-8"))
 
 

@@ -3,8 +3,6 @@
 A definition is counted in the `specs/` folder of the repository in which it stands, also if it stands in a `where` block. A type
 of the code that a definition names is counted separately; definitions of the kit aren't counted.
 """
-from __future__ import annotations
-
 import functools
 import re
 from collections.abc import Iterable
@@ -41,7 +39,6 @@ class Definition:
 
     @property
     def within(self) -> list[str]:
-        """The names of the definitions in its `where` block."""
         found: list[str] = []
         margin = -1
         for line in self.lines:
@@ -96,12 +93,10 @@ def passed_on(place: str) -> dict[str, str]:
 
 
 def place_of(file: Path) -> str:
-    """Returns the name of a file as imports write it: crate.specs.Path."""
     return ".".join(file.relative_to(CRATES).with_suffix("").parts)
 
 
 def read_specs() -> tuple[dict[str, Definition], Imports]:
-    """Returns all definitions by key, and the imports of each file."""
     definitions: dict[str, Definition] = {}
     imports: Imports = {}
     for file in sorted(CRATES.glob("*/specs/**/*.antt")):

@@ -4,8 +4,6 @@ A proof of `A → B` shows B and asks for A. In `A → ⊥` and `¬ A`, A is ask
 of a definition with several clauses, and the sides of `⊎`, are choices: one of them is enough.
 """
 
-from __future__ import annotations
-
 import functools
 import re
 
@@ -19,7 +17,6 @@ NAME_ENDS = re.compile(r"\b(?!\s*:)")
 
 
 def bare(text: str) -> str:
-    """Returns the text without comments."""
     return "\n".join(line.split(" -- ")[0] for line in text.splitlines() if not line.strip().startswith(("--", "//")))
 
 
@@ -108,7 +105,6 @@ def fields_of(lines: list[str]) -> list[str]:
 
 
 def clauses_of(name: str, lines: list[str]) -> list[str]:
-    """Returns the right sides of a definition's clauses."""
     clauses = []
     for line in lines:
         bare_line = line.lstrip()

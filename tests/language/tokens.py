@@ -1,6 +1,4 @@
 """Splits a source into tokens."""
-from __future__ import annotations
-
 import functools
 import re
 from typing import NamedTuple
@@ -41,7 +39,6 @@ def tokens_of(text: str) -> tuple[Token, ...]:
 
 
 def code_of(tokens: tuple[Token, ...]) -> list[Token]:
-    """Returns the tokens without comments."""
     return [one for one in tokens if one.kind not in ("doc", "remark")]
 
 

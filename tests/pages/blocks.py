@@ -6,8 +6,6 @@ blocks are run in order: a line `$ COMMAND` is a command, and the lines below it
 are what it prints, standard output and standard error together. A line `...` stands for any lines, and `...` within a line for
 any text of that line. Lines that begin with `life: ` are the launcher's, and aren't compared. Other blocks aren't run.
 """
-from __future__ import annotations
-
 import os
 import re
 import select
@@ -29,7 +27,6 @@ class Command:
 
 
 def commands_in(page: str, text: str) -> list[Command]:
-    """Returns the commands of a page's blocks, in order."""
     found, fence = [], None
     for number, line in enumerate(text.split("\n"), 1):
         if line.startswith("```"):
@@ -66,8 +63,6 @@ def is_as_shown(wanted: list[str], printed: list[str]) -> bool:
 
 
 class Session:
-    """A shell at the top of a copy of the repository."""
-
     def __init__(self, top: str, home: str) -> None:
         self.top = top
         self.shell: Any = subprocess.Popen(["sh"], cwd=top, stdin=subprocess.PIPE, stdout=subprocess.PIPE,

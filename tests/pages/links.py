@@ -1,6 +1,4 @@
 """Checks the links of pages in HTML: each leads to an existing file and place, and nothing is fetched from elsewhere."""
-from __future__ import annotations
-
 import html.parser
 import os
 import pathlib
@@ -12,8 +10,6 @@ FETCHED = {"img": "src", "script": "src", "link": "href", "iframe": "src", "obje
 
 
 class Page(html.parser.HTMLParser):
-    """The places of a page, the targets of its links, and what it fetches."""
-
     def __init__(self, file: pathlib.Path) -> None:
         super().__init__()
         self.places: set[str] = set()

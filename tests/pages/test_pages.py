@@ -1,7 +1,5 @@
 """Tests the documentation: every command shown prints what is shown, every link leads somewhere, and the language keeps to its
 rules."""
-from __future__ import annotations
-
 import ast
 import os
 import pathlib

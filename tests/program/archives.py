@@ -1,7 +1,5 @@
 """Folders that everybody may read and nobody may write. Root may write any file, so as root the program is run there as the
 user nobody."""
-from __future__ import annotations
-
 import os
 import shutil
 from collections.abc import Iterator
@@ -12,7 +10,6 @@ from tests.support.program import Program
 
 
 def let_all_read(folder: Path) -> None:
-    """Lets everybody enter a temporary folder and the folders above it."""
     for one in (folder, *folder.parents):
         if one.is_relative_to("/tmp") and one != Path("/tmp") and os.stat(one).st_uid == os.geteuid():
             os.chmod(one, 0o755)

@@ -3,8 +3,6 @@
 A record becomes a list of such calls, each with what was written and where. In order and number, the list must be exactly what
 the journal and its checkpoint allow. No line that reports a posting may be written before the posting's record is safe.
 """
-from __future__ import annotations
-
 import re
 from collections.abc import Iterator
 from pathlib import Path

@@ -1,6 +1,4 @@
 """Judges records of strace: whether what passed through the program's devices agrees with the disk model and the files."""
-from __future__ import annotations
-
 import re
 from dataclasses import dataclass
 from pathlib import Path

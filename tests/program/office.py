@@ -1,7 +1,5 @@
 """Shared parts of the tests of the program: small files and texts, worked out by hand from docs/reference and
 docs/explanation."""
-from __future__ import annotations
-
 from tests.support.folders import EXAMPLES, Folder
 
 # a journal without records: the first 17 bytes, and a commit byte of 0
@@ -20,7 +18,6 @@ def example(name: str) -> str:
 
 
 def told(folder: Folder, *words: str, given: str | bytes = b"") -> tuple[int, str]:
-    """Runs the program, and returns its status and what it printed."""
     ran = folder.life(*words, given=given)
     return ran.status, ran.out
 

@@ -1,7 +1,5 @@
 """Compares the balances of the small office with those of plain text accounting: its records are written as transactions for
 `ledger` and `hledger`, and the balances of these programs must be those that `state` prints."""
-from __future__ import annotations
-
 import decimal
 import subprocess
 

@@ -1,7 +1,5 @@
 """Tests a journal that can't be written, such as in an archive: commands that only read print what they print over a writable
 file, a posting is answered `fault`, and nothing is created or changed."""
-from __future__ import annotations
-
 import fcntl
 import os
 import subprocess
@@ -26,7 +24,6 @@ def ran(words: list[str], folder: Folder, asked: str, given: str = "") -> tuple[
 
 @pytest.fixture
 def desk(folder: Folder) -> Folder:
-    """A book with a basis."""
     made = folder.below("archive")
     made.take("basis.csv", "q.xml", "g.xml")
     made.post(example("whole-life.csv"))

@@ -4,8 +4,6 @@ and its checkpoint allow.
 A sync that is left out or made too late is found here and by no proof; likewise a write to a file that can only be read, and a
 line that is written before its record is safe.
 """
-from __future__ import annotations
-
 import subprocess
 from pathlib import Path
 
@@ -88,7 +86,6 @@ def long_journal(desk: Folder) -> Folder:
 
 
 def many_calls(folder: Folder, call: str, *words: str) -> tuple[int, str]:
-    """Returns how often a run makes a call, and what the run prints."""
     made, out = record(folder.path, [str(folder.program.path)], *words, traced=call)
     return made.read_text(encoding="ascii").count(f"{call}("), out
 

@@ -11,8 +11,6 @@ its arguments and the script that it is given (`<NAME`); `transcript` has everyt
 files, the journal is removed and the next runs begin anew. `files` names files of the repository that are copied next to the
 folder's own files, each with its name there if that is another one.
 """
-from __future__ import annotations
-
 import shlex
 import shutil
 from pathlib import Path

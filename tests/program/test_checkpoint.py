@@ -2,8 +2,6 @@
 checkpoint that is older than the journal or than its upgrade; drawn books, for which every checkpoint is computed again
 without the program, byte by byte; `state`, which prints with a checkpoint what it prints without one; and programs that are
 killed."""
-from __future__ import annotations
-
 import fcntl
 import os
 import resource
@@ -37,14 +35,12 @@ def kept(folder: Folder) -> Path:
 
 @pytest.fixture
 def claimed(table_q: Folder) -> Folder:
-    """A book of four commands on one policy, and its checkpoint."""
     table_q.post(CLAIMED)
     assert told(table_q, "checkpoint") == (0, "checkpoint,4\n")
     return table_q
 
 
 def stated_without(folder: Folder) -> tuple[int, str]:
-    """Returns what `state` prints in a folder that has only the journal."""
     alone = folder.below("alone")
     alone.write("journal.life", folder.journal.read_bytes())
     kept(alone).unlink(missing_ok=True)
@@ -73,7 +69,6 @@ def put(path: Path, at: int, byte: int) -> None:
 
 @contextmanager
 def held(path: Path) -> Iterator[None]:
-    """Locks the file, as another process would."""
     with open(path, "rb") as file:
         fcntl.flock(file, fcntl.LOCK_EX)
         yield

@@ -3,8 +3,6 @@ gives the files of the basis, standard output takes the transcript, and each res
 the disk model allows. So the records that the adapters keep for contracts would contain exactly this. It also checks that no file
 takes the number of a closed stream.
 """
-from __future__ import annotations
-
 import os
 import re
 import subprocess
@@ -48,7 +46,6 @@ def test_the_devices_give_and_take_what_the_program_is_told_and_prints(runs: lis
 
 
 def closed_run(folder: Folder, words: list[str], closed: str) -> tuple[int, str]:
-    """Returns the status of a run with these streams closed, and what it printed."""
     shut = " ".join({"input": "<&-", "output": ">&-", "error": "2>&-"}[one] for one in closed.split("-") if one)
     ran = subprocess.run(["sh", "-c", f'exec "$@" {shut}', "sh", *words, "run"], cwd=folder.path,
                          input=example("first-issues.csv").encode(), capture_output=True, check=False)

@@ -1,7 +1,5 @@
 """Checks what `life` does before it runs the program: it syncs the book's files and then drops the system's cached copies of
 them, so that the program reads from the disk, whatever became of an earlier sync."""
-from __future__ import annotations
-
 import re
 import subprocess
 from pathlib import Path

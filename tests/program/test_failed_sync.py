@@ -4,8 +4,6 @@ Linux marks pages as clean even if writing them failed. So the sync of the next 
 reads could come from such a page. Each case makes a medium whose writes fail at the commit byte of a posting, or at the byte that
 closes a checkpoint, and compares what each later run prints with a copy of the medium that is mounted elsewhere.
 """
-from __future__ import annotations
-
 import os
 import re
 import subprocess

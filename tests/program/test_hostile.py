@@ -2,8 +2,6 @@
 element past a limit; right files in which one byte is changed; drawn files and arguments. A case that fails is named with its
 number. HOSTILE is the number of seconds for changed bytes and for drawn cases, or `all`.
 """
-from __future__ import annotations
-
 import os
 import re
 from pathlib import Path
@@ -11,7 +9,8 @@ from pathlib import Path
 import pytest
 
 from tests.program.harness import in_memory, passes
-from tests.program.office import FIRST_BYTES, NONE_WATCHED, POLICY, RECORD, checks, told
+from tests.program.hostile.trial import Trial, judge_journal, judge_script
+from tests.program.office import EMPTY, FIRST_BYTES, NONE_WATCHED, POLICY, RECORD, checks, told
 from tests.support.big_journals import write as write_big
 from tests.support.folders import Folder
 from tests.support.made_books import select_table
@@ -35,6 +34,30 @@ def test_drawn_cases(program: Program, tmp_path: Path) -> None:
     seconds = SECONDS.replace("all", "600") or "30"
     with in_memory(tmp_path) as quick:
         passes(program, "hostile.fuzz", program.path, quick, seconds, "1", seconds=7000)
+
+
+# each field of an issue at its limits and one beyond them, and one field too many
+LIMITS = {"number": ["0", "1", "4294967295", "4294967296"], "age": ["0", "128", "129", "130", "131"],
+          "years": ["0", "1", "2", "101", "102"], "plan": ["term", "whole", "limited"],
+          "amount": ["0.00", "0.01", "100000000.00", "100000000.01", "1000000000.00", "60.00,1.00"]}
+
+
+@pytest.fixture
+def trial(program: Program, tmp_path: Path) -> Trial:
+    return Trial(str(program.path), str(tmp_path / "trial"))
+
+
+@pytest.mark.parametrize(("field", "value"), [(field, value) for field, values in LIMITS.items() for value in values])
+def test_scripts_at_the_limits(trial: Trial, field: str, value: str) -> None:
+    fields = {"number": "1", "plan": "endowment", "age": "30", "years": "10", "amount": "60.00", field: value}
+    judge_script(trial, "1,issue,{number},2020-01-01,{plan},{age},{years},{amount},1.00\n".format_map(fields).encode())
+
+
+def test_journals_of_few_bytes(trial: Trial) -> None:
+    """A creation that a crash ended may have left some of these."""
+    for data in [*(bytes(size) for size in range(21)), *(EMPTY[:size] for size in range(19)), bytes(1) + EMPTY[1:],
+                 bytes([2]) + EMPTY[1:], EMPTY[:17] + b"\x02", EMPTY[:17] + b"\x01"]:
+        judge_journal(trial, data)
 
 
 @pytest.fixture

@@ -1,6 +1,4 @@
 """Tests generated scripts, and `load` with one: alone, over its own journal, and compared with `run` and `value`."""
-from __future__ import annotations
-
 import pytest
 
 from tests.program.office import FIRST_BYTES, RECORD, checks, told

@@ -1,8 +1,6 @@
 """Tests projections: years worked out by hand, by tables of either kind; policies for which no payment is expected; arguments
 and files that are refused; drawn books, for which every year is computed again without the program; and the same output for
 each number of workers."""
-from __future__ import annotations
-
 import fcntl
 import itertools
 import subprocess
@@ -20,7 +18,6 @@ THREE_YEARS = ["400.00,400.00,100.00,100.00,0.00,0.00", "360.00,360.00,180.00,18
 
 
 def years(head: str, *cash: str, unvalued: int = 0) -> str:
-    """Returns a projection's text: its head, and the cash of each year."""
     rows = "".join(f"year,{number},{one}\n" for number, one in enumerate(cash))
     return f"project,{head},{len(cash)}\n{rows}unvalued,{unvalued}\n"
 

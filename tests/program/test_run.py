@@ -1,7 +1,5 @@
 """Tests scripts as clerks run them: what is printed, the status, and the journal afterwards, over each kind of file, and if
 the output or the disk fails."""
-from __future__ import annotations
-
 import resource
 import subprocess
 import time
@@ -18,7 +16,6 @@ VALUE = "1,value,2021-01-01,now,1\n"
 
 @pytest.fixture
 def one_day(folder: Folder) -> Folder:
-    """A folder with the journal of the example's first day."""
     assert told(folder, "run", given=example("first-issues.csv")) == (0, example("first-issues.transcript"))
     return folder
 

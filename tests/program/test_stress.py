@@ -1,6 +1,4 @@
 """Tests random scripts of eight clerks: each transcript must be one history, and the journal must hold what was accepted."""
-from __future__ import annotations
-
 from pathlib import Path
 
 import pytest

@@ -1,8 +1,6 @@
 """Tests a journal that was upgraded: the program writes it and reads it. A journal that is upgraded twice, or that makes a
 policy paid up before its upgrade, is refused at that record. A program from before the upgrade refuses the journal at the
 upgrade's record."""
-from __future__ import annotations
-
 import os
 import subprocess
 import sys

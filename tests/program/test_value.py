@@ -1,7 +1,5 @@
 """Tests valuations: rows worked out by hand, by each measure; positions; each way in which arguments, a basis or a table are
 refused; and every row of a book computed again in exact fractions, without the program."""
-from __future__ import annotations
-
 import subprocess
 from collections.abc import Iterator
 

@@ -3,8 +3,6 @@
 A further worker is one more thread if each has 8,192 policies, and in a valuation one more again if each has 8,192 rows to write;
 a further lane is one more thread, as strace counts. The text is the same for each number of workers.
 """
-from __future__ import annotations
-
 import datetime
 import re
 import subprocess
@@ -22,7 +20,6 @@ FIRST, NAMES = datetime.date(2000, 1, 1), sorted(PLANS.values())
 
 
 def issues(count: int) -> Iterator[Command]:
-    """Yields issues of all plans, ages and durations, over twenty years."""
     for number in range(1, count + 1):
         plan = NAMES[number % len(NAMES)]
         yield Command("issue", number, FIRST + datetime.timedelta(days=number * 37 % 7305), plan, 20 + number * 13 % 50,
@@ -30,7 +27,6 @@ def issues(count: int) -> Iterator[Command]:
 
 
 def threads(folder: Folder, *words: str, given: str = "") -> tuple[int, str]:
-    """Returns how many threads a run starts, and what it prints."""
     log = folder.path / "log"
     ran = subprocess.run(["strace", "-f", "-qq", "-o", log, "-e", "trace=clone,clone3", str(folder.program.path), *words],
                          cwd=folder.path, input=given, capture_output=True, text=True, check=False)

@@ -4,8 +4,6 @@ A changed body does what the original does, unless a folder has a file with the 
 and without such a file it behaves as the unchanged program. Only a lane has no access to files: there the bell isn't rung for
 clerk 8.
 """
-from __future__ import annotations
-
 import re
 from pathlib import Path
 

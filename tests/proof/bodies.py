@@ -19,8 +19,6 @@ The trial is `rt must-fail` in a copy of the crate and of the crates that it sta
 bodies. For this the copy uses what earlier checks kept (`rt check` in crates/CRATE); otherwise it takes a whole check. The status
 is 1 if a body isn't refused, is refused elsewhere, or has no `at:` line, and 2 if nothing could be tried.
 """
-from __future__ import annotations
-
 import argparse
 import re
 import shutil
@@ -174,7 +172,6 @@ def verdicts(log: str) -> dict[str, str | None]:
 
 
 def chosen(words: list[str], bodies: list[Body]) -> dict[str, list[Body]]:
-    """Returns the bodies that these arguments name, by crate."""
     found: dict[str, list[Body]] = {}
     for word in words:
         named = [body for body in bodies if word in (body.crate, body.name)]

@@ -8,10 +8,9 @@ first). A change counts as refused if the case isn't proved, each file of specs/
 worked cases: not a lemma of the code, but what the case says. Each change takes about ten seconds of a processor, and three times
 as long if the case is about a valuation.
 """
-from __future__ import annotations
-
 import argparse
 import concurrent.futures
+import importlib
 import os
 import queue
 import re
@@ -24,7 +23,7 @@ from typing import Any
 TOP = os.path.realpath(os.path.join(os.path.dirname(os.path.abspath(__file__)), "..", ".."))
 # The kit's own list of the arguments with which it calls its prover.
 sys.path.insert(0, os.path.dirname(os.path.realpath(shutil.which("rt") or "rt")))
-import rtlib  # type: ignore[import]  # noqa: E402
+rtlib: Any = importlib.import_module("rtlib")
 
 # What is changed; the file below crates/; the old and new texts, in pairs; the crate that has the worked case; and the case.
 CHANGES = [

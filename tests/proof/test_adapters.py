@@ -1,8 +1,6 @@
 """Tests code that is read and not proved: in a build without proofs, each of these bodies is changed, and a test that
 docs/proof/trusted.md names must refuse the change with the right complaint; unchanged, the same test must pass. One build
 serves all changes."""
-from __future__ import annotations
-
 import os
 import re
 import subprocess
@@ -52,7 +50,6 @@ def asked(tmp_path_factory: pytest.TempPathFactory) -> Path:
 
 @pytest.fixture(scope="module")
 def changed(asked: Path, tmp_path_factory: pytest.TempPathFactory) -> Path:
-    """A program with all changes, built without proofs."""
     copy = tmp_path_factory.mktemp("copy")
     listed = subprocess.run(["git", "ls-files", "-z"], cwd=ROOT, capture_output=True, check=True).stdout
     subprocess.run(["xargs", "-0", "cp", "--parents", "-p", "-t", copy], cwd=ROOT, input=listed, check=True)
@@ -73,8 +70,8 @@ def by_trial(program: Path, folder: Path, words: str) -> subprocess.CompletedPro
     module, *rest = words.split()
     env = {**os.environ, "PYTHONPATH": f"{ROOT}:{ROOT / 'tools'}"}
     folder.mkdir()
-    return subprocess.run([sys.executable, "-m", f"tests.program.faults.{module}", program, folder, *rest], cwd=ROOT, env=env,
-                          capture_output=True, text=True, check=False)
+    command: list[str | Path] = [sys.executable, "-m", "tests.program.harness", f"faults.{module}", program, folder, *rest]
+    return subprocess.run(command, cwd=ROOT, env=env, capture_output=True, text=True, check=False)
 
 
 def test_each_change_is_tried() -> None:

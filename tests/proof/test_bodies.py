@@ -1,7 +1,5 @@
 """Tests that the bodies that must be refused can be tried, that those somebody may ask for exist, and that the trial reports a
 wrong place."""
-from __future__ import annotations
-
 from pathlib import Path
 
 import pytest

@@ -1,7 +1,5 @@
 """Tests that the changes of definitions which worked cases must refuse can be made; tests/proof/changed_definitions.py tries
 them."""
-from __future__ import annotations
-
 import pytest
 
 from tests.language.source import CRATES, sources_of

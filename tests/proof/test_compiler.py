@@ -1,7 +1,5 @@
 """Tests what no body of the program can do, because the compiler refuses it at its line: reach a device of the system, or make
 up the evidence that memory was refused. Code that has the system, or that asks for memory, compiles with the same lines."""
-from __future__ import annotations
-
 import re
 import shutil
 import subprocess

@@ -2,8 +2,6 @@
 lintian finds no error, and the stated sums are right. Then a new user's steps are tested: on a fresh Debian without the kit
 the package is installed, a book is posted to, valued and shown, the next version is installed over it, and the package is
 removed."""
-from __future__ import annotations
-
 import hashlib
 import os
 import re
@@ -84,7 +82,6 @@ def revision(program: Program, tmp_path_factory: pytest.TempPathFactory) -> Path
 
 @pytest.fixture
 def clone(revision: Path, tmp_path: Path, program: Program) -> Path:
-    """A clone of that repository, which a test may change."""
     subprocess.run(["git", "clone", "-q", revision, tmp_path / "clone"], check=True)
     prove(tmp_path / "clone", program)
     return tmp_path / "clone"
@@ -205,7 +202,6 @@ class Debian:
         return ran(self.words(command), self.top)
 
     def shows(self, command: str, says: str = "", status: int = 0) -> Ended:
-        """Runs a command, and asserts that it ends with this status and prints this."""
         done = self.run(command)
         assert done.status == status and re.search(says, done.out + done.err, re.M), (command, done)
         return done

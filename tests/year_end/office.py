@@ -1,6 +1,4 @@
 """The folder of an office and its commands; each command is run, and its status is checked."""
-from __future__ import annotations
-
 import os
 import re
 import subprocess
@@ -34,7 +32,6 @@ class Office:
         return ran.stdout
 
     def tool(self, *words: Any, where: str = "main", status: int = 0) -> str:
-        """Returns what a command of the tools prints."""
         told = list(map(str, words))
         return self.ran([sys.executable, self.tools, *told], "life-tools " + " ".join(told), where, status)
 
@@ -43,7 +40,6 @@ class Office:
         return self.ran([self.program, *told], "life " + " ".join(told), where, 0)
 
     def keep(self, text: str, *names: str) -> str:
-        """Writes a text to a file of the folder, and returns its path."""
         with open(self.path(*names), "w", encoding="utf-8") as file:
             file.write(text)
         return self.path(*names)
@@ -53,7 +49,6 @@ class Office:
             return file.read()
 
     def same(self, what: str, found: Any, wanted: Any) -> None:
-        """Compares two results, and reports what differs."""
         self.compared += 1
         if found == wanted:
             return

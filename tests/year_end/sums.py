@@ -2,8 +2,6 @@
 
 Amounts are in cents, days are texts, and a sheet is a dict of rows by their first cell.
 """
-from __future__ import annotations
-
 import csv
 import sqlite3
 from typing import Any, Iterable, NamedTuple
@@ -45,8 +43,6 @@ Rows = dict[str, list[Any]]
 
 
 class Year(NamedTuple):
-    """The first and last day of a year, and the positions on them."""
-
     on1: str
     p1: int
     on2: str

@@ -3,8 +3,6 @@
 The book is drawn and covers twenty years; then it is divided into eight books. Each sheet is compared with sums that SQLite
 computes over `export`. YEAR_END_POLICIES is the number of policies: 2,000 by default, or 20,000 for a whole year-end.
 """
-from __future__ import annotations
-
 import datetime
 import os
 import shutil

@@ -1,10 +1,6 @@
 """The steps of a year-end: what an administrator, an actuary and an auditor call, and what SQLite computes for each sheet."""
-from __future__ import annotations
-
 import csv
-import hashlib
 import io
-import os
 import re
 import sqlite3
 from typing import Any
@@ -14,7 +10,6 @@ from .sums import Sums, Year, cents, csv_rows, sheet_rows, value_of
 
 ON1, ON2, TODAY = "2022-12-31", "2023-12-31", "2024-04-02"
 WITHIN = 31
-DRAWN, SEED = 40, 59
 MEASURES: dict[str, list[str]] = {"terminal": [], "mean": ["--mean"], "deficiency": ["--deficiency"]}
 KEYS = ("plan", "status", "issue-year", "age-band")
 SHEETS = ("exhibit", "reserves", "premiums", "increase", "claims")
@@ -50,8 +45,6 @@ class Walk:
                 "select max(position) from command where day <= ?", (day,)).fetchall()
             office.same(f"position-on {day}", position, upto)
         self.due()
-        self.lines_to_send()
-        office.keep(office.tool("seal", "--at", positions[1]), "seal")
 
     def lay_front(self, name: str, position: int) -> None:
         """Writes a copy of a prefix of the book, as the page for auditors describes."""
@@ -83,19 +76,6 @@ class Walk:
         found = sorted((what, int(number), day, until, cents(amount)) for what, number, day, until, amount in rows)
         self.office.same("due", found, self.sums.due(WITHIN))
 
-    def lines_to_send(self) -> None:
-        """Checks the lines for today's lapses and maturities, and runs them on a copy."""
-        office = self.office
-        lines = office.tool("due", TODAY, "--script", "lapse,mature")
-        script = office.keep(lines, "script.csv")
-        count = lines.count("\n")
-        # for policies that nobody has looked at for years `check` reports exactly this, and nothing else
-        told = office.tool("check", script, "--today", TODAY, status=1).splitlines()
-        kinds = {re.sub("[0-9]+", "N", line.partition(" posting")[0]) for line in told if line.startswith("  ")}
-        need(kinds <= {"  the day is N days after the policy's newest"}, f"check tells {kinds}")
-        office.tool("dry-run", script)
-        need(f"{count} accepted, 0 refused" in office.remarks, f"dry-run: {office.remarks[:500]}")
-
     # --- the actuary ---
 
     def actuary(self) -> None:
@@ -106,7 +86,6 @@ class Walk:
             if measure != "deficiency":
                 self.statement(measure, words, [])
         self.why()
-        self.files()
 
     def report(self, measure: str, words: list[str], classes: list[str]) -> None:
         office, name = self.office, f"report-{measure}.csv"
@@ -210,19 +189,6 @@ class Walk:
             need(abs(net - amount * float(beta[1])) <= 1 + amount * 1e-9, f"net premium of {number}: {net}, beta {beta[1]}")
             office.compared += 1
 
-    def files(self) -> None:
-        """Checks that a page and a workbook of the statement can be made, and that the page has the same total."""
-        office, year = self.office, self.year
-        total = f"{self.sums_of_terminal():,.2f}"
-        for form in ("html", "xlsx"):
-            office.tool("statement", ON1, year.p1, ON2, year.p2, f"--{form}", f"../statement.{form}")
-        need(total in office.text("statement.html"), f"the page doesn't say {total}")
-        office.compared += 1
-
-    def sums_of_terminal(self) -> float:
-        self.sums.take_worths("terminal")
-        return self.sums.total(3)[1] / 100
-
     # --- classes of lives ---
 
     def class_words(self) -> list[str]:
@@ -253,10 +219,6 @@ class Walk:
         office.same("balances", found, booked)
         flags = office.tool("audit", "flags", "--after", year.p1, "--at", year.p2, "--late", 10, status=1)
         self.flags(list(csv.reader(io.StringIO(flags)))[1:])
-        for by in ("reserve", "amount"):
-            self.sample(by)
-        need(office.tool("seal", "--check", "../seal").startswith("as sealed on"), "the seal isn't that of the book")
-        self.changed_seal()
 
     def flags(self, rows: list[list[str]]) -> None:
         on_day = self.sums.rows("""select position from command c where c.kind = 'claim' and position > :p1 and c.day = (
@@ -268,57 +230,6 @@ class Walk:
         for flag, wanted in (("on-last-day", on_day), ("late-maturity", late)):
             found = [int(row[1]) for row in rows if row[0] == flag]
             self.office.same(f"flags, {flag}", found, sorted(position for position, in wanted))
-
-    def sample(self, by: str) -> None:
-        """Draws the sample once more by stepping along the units; its rows are right, and papers and letters show exactly
-        these rows."""
-        office, year = self.office, self.year
-        words = ["audit", "sample", DRAWN, "--seed", SEED, "--on", ON2, "--at", year.p2, "--by", by]
-        office.keep(office.tool(*words), f"sample-{by}")
-        self.sums.take_worths("terminal")
-        size = "w.high" if by == "reserve" else "case when p.status in ('inforce', 'paidup') then p.amount_cents else 0 end"
-        sizes = self.sums.rows(f"""select p.policy, {size} from main.policy p join worth w on w.policy = p.policy and w.at = 3
-                                   join command c on c.policy = p.policy and c.kind = 'issue' order by c.position""")
-        found = [int(line.split(",")[1]) for line in office.text(f"sample-{by}").splitlines()[2:]]
-        office.same(f"sample by {by}", found, walked(sizes))
-        said = office.tool("check-values", "../closing.life", "basis.csv", f"../sample-{by}")
-        need(f"{len(found)} of {len(sizes)} rows are right" in said, said)
-        office.tool("audit", "papers", f"../sample-{by}", "--html", f"../papers-{by}.html")
-        self.papers(f"papers-{by}.html", len(found))
-        self.letters(office.tool("audit", "letters", f"../sample-{by}"), found)
-
-    def papers(self, name: str, drawn: int) -> None:
-        """Asserts that each drawn policy has a row that holds its exact value."""
-        held = re.findall(r"^printed: .*: (?:the same|it holds the exact value.*)</pre>", self.office.text(name), re.MULTILINE)
-        need(len(held) == drawn, f"{name}: {len(held)} rows are worked out, and {drawn} were drawn")
-
-    def letters(self, text: str, drawn: list[int]) -> None:
-        found = [[row["policy"], row["status"], row["amount"], row["premium a year"], row["premiums paid"], row["outstanding"],
-                  row["issued"]] for row in csv.DictReader(io.StringIO(text))]
-        rows = {row[0]: row for row in self.sums.rows("""
-            select policy, status, printf('%.2f', amount_cents / 100.0),
-                   case status when 'paidup' then '' else printf('%.2f', premium_cents / 100.0) end, premiums_paid,
-                   printf('%.2f', outstanding_cents / 100.0), issued from main.policy""")}
-        self.office.same("letters", found, [[str(cell) for cell in rows[number]] for number in drawn])
-
-    def changed_seal(self) -> None:
-        """Changes a byte of the sealed prefix, which `seal --check` must find, and checks the restored journal, which is as it
-        was sealed."""
-        office = self.office
-        os.makedirs(office.path("changed"))
-        for name in ("basis.csv", "g.xml"):
-            office.keep(office.text("main", name), "changed", name)
-        with open(office.path("main", "journal.life"), "rb") as file:
-            data = bytearray(file.read())
-        place = FRONT + RECORD * (self.year.p1 + 1) - 40
-        for at, status in ((place, 1), (None, 0)):
-            if at is not None:
-                data[at] ^= 1
-            with open(office.path("changed", "journal.life"), "wb") as file:
-                file.write(data)
-            office.tool("seal", "--check", "../seal", where="changed", status=status)
-            if at is not None:
-                data[at] ^= 1
 
     # --- many books ---
 
@@ -340,7 +251,6 @@ class Walk:
         self.lists_of_all()
 
     def listed(self, *words: Any, status: int = 0) -> str:
-        """Returns what is printed for the list of books."""
         return self.office.tool("books", "books.csv", *words, where="", status=status)
 
     def divide(self, books: int) -> None:
@@ -379,7 +289,7 @@ class Walk:
                     office.same(f"{sheet} of all, {measure}", one, other)
 
     def lists_of_all(self) -> None:
-        """Compares what is due, the flags, and a sample with its papers and letters."""
+        """Compares what is due, and the flags."""
         office = self.office
         text = self.listed("due", ON2, "--within", WITHIN, "--at", "p2.csv")
         rows = list(csv.reader(io.StringIO(text)))[1:]
@@ -389,28 +299,3 @@ class Walk:
         one = office.tool("audit", "flags", "--after", self.year.p1, "--at", self.year.p2, "--late", 10, status=1)
         office.same("flags of all", sorted(line.split(",", 3)[3] for line in text.splitlines()[1:]),
                     sorted(line.split(",", 2)[2] for line in one.splitlines()[1:]))
-        sample = self.listed("audit", "sample", DRAWN, "--seed", SEED, "--on", ON2, "--at", "p2.csv")
-        office.keep(sample, "sample-all")
-        drawn = [line.split(",") for line in sample.splitlines() if ",row," in line]
-        need(sample.splitlines()[0].split(",")[5:7] == office.text("sample-reserve").splitlines()[1].split(",")[4:6],
-             "the sample of all is of another total or start")
-        self.listed("audit", "papers", "sample-all", "--html", "papers-all.html")
-        self.papers("papers-all.html", len(drawn))
-        text = self.listed("audit", "letters", "sample-all")
-        self.letters(text, [int(row[2]) for row in drawn])
-
-
-def walked(sizes: list[tuple[int, int]]) -> list[int]:
-    """Returns the policies in which a point lies; the points are at equal intervals from a start, which is the SHA-256 of the
-    seed modulo the total."""
-    total = sum(size for _, size in sizes)
-    point = int.from_bytes(hashlib.sha256(str(SEED).encode()).digest(), "big") % total
-    found, ahead = [], 0
-    for number, size in sizes:
-        # in fractions of a cent, so that the interval is a whole number
-        ahead += size * DRAWN
-        if point < ahead:
-            found.append(number)
-        while point < ahead:
-            point += total
-    return found

@@ -5,7 +5,7 @@ The program is run with each sync delayed, and the times at which its lines are 
 last line has no later sync. It must be read before the watchers' lines are written; the program writes these only after the
 thread that writes for the lanes has ended, and that thread's end is delayed.
 
-usage: python3 -m tests.program.faults.as_soon PROGRAM FOLDER [--held-back | --clerk N]
+usage: python3 -m tests.program.harness faults.as_soon PROGRAM FOLDER [--held-back | --clerk N]
 
 The program is first run in this way. Then its output is sent through a command that holds back what it reads, and through a
 command that holds back only the last line; both delays must be found. With --held-back only these two are run. With --clerk N the
@@ -58,7 +58,6 @@ def watch(program: str, folder: Path, behind: list[str],
 
 
 def amiss(read: list[float], began: list[float], watched: list[float]) -> list[str]:
-    """Returns what is wrong with the times at which the lines were read."""
     if not watched:
         return ["no watcher's line was written, before which the last line has to be read"]
     if len(read) != POSTINGS or len(began) != SYNCS * POSTINGS:
@@ -97,7 +96,3 @@ def main() -> int:
             print(f"as_soon: {' '.join(behind)}, which holds back the last line, isn't found", file=sys.stderr)
             failed = True
     return int(failed)
-
-
-if __name__ == "__main__":
-    sys.exit(main())

@@ -1,6 +1,6 @@
 """Runs the program with one failing system call: strace makes the k-th call of each kind fail, for every k of a run.
 
-usage: python3 -m tests.program.faults.calls PROGRAM FOLDER [KIND K ERROR]
+usage: python3 -m tests.program.harness faults.calls PROGRAM FOLDER [KIND K ERROR]
 
 With a kind: only its k-th call on the journal fails, in the first run of one clerk.
 
@@ -8,8 +8,6 @@ An undisturbed run is recorded first: how many calls of each kind each thread ma
 thread makes to open the journal, before there is a second thread or a record is written. strace counts the calls of each thread
 separately, so the k-th call may fail in two threads; the record of the disturbed run shows how many failed.
 """
-from __future__ import annotations
-
 import collections
 import concurrent.futures
 import os
@@ -65,7 +63,6 @@ def file_of_call(desk: Desk, args: str) -> str | None:
 
 
 def is_record(call: re.Match[str]) -> bool:
-    """Returns whether the call writes a body and the commit byte after it."""
     return call[2] == "pwrite64" and re.search(r", 65, \d+", call[3]) is not None
 
 
@@ -214,10 +211,3 @@ def main() -> None:
     errors = ", ".join(f"{seen[error]} with {error}" for error in WRITTEN)
     print(f"faults: {trials} runs in which a call fails, {errors}: {seen['lines']} lines are answered fault, "
           "nothing accepted is lost")
-
-
-if __name__ == "__main__":
-    try:
-        main()
-    except Wrong as wrong:
-        sys.exit(f"faults: {wrong}")

@@ -1,14 +1,12 @@
 """Runs drawn scripts of eight clerks in which one call on the journal fails, or two in a row.
 
-usage: python3 -m tests.program.faults.drawn PROGRAM FOLDER SEED
+usage: python3 -m tests.program.harness faults.drawn PROGRAM FOLDER SEED
 
 Each failing call is drawn among all that an undisturbed run of the same script makes; it belongs to a posting or to the opening.
 strace counts the calls of each thread separately. Exactly as many lines as calls failed are answered `fault`, or every posting
 from a failed sync on. What was accepted is in the file; beyond that the file may hold at most the last posting that wasn't
 accepted.
 """
-from __future__ import annotations
-
 import collections
 import os
 import random
@@ -21,6 +19,7 @@ from life_tools.journal.file import file_of, read_journal
 from tests.program.faults.runs import JOURNAL, Desk, read_bytes
 from life_tools.tables.basis import read_basis
 
+from tests.rules.policies import Book
 from tests.support.drawn_scripts import draws, make_book, make_script
 from life_tools.common.formats import Wrong, demand
 from life_tools.reserves.exact import Known
@@ -32,13 +31,11 @@ ERRORS = ["EIO", "ENOSPC"]
 
 
 class Drawn:
-    """A drawn script over a drawn book."""
-
     def __init__(self, program: str, folder: str, seed: int) -> None:
         self.program, self.folder, self.seed = program, folder, seed
         draw = draws(seed)
         self.before = file_of(make_book(draw, 40).commands)
-        self.script = make_script(draw, read_journal(self.before).book).encode()
+        self.script = make_script(draw, Book(read_journal(self.before).commands)).encode()
         desk = self.desk("undisturbed")
         self.basis = read_basis(desk.path("basis.csv"))
         self.known: Known = {}
@@ -98,10 +95,3 @@ def main() -> None:
             faults += sum(pool.map(drawn.try_one, range(FAULTS_EACH)))
     print(f"faults: {SCRIPTS} drawn scripts of eight clerks, each with {FAULTS_EACH} times one failing call or two in a row: "
           f"{faults} lines are answered fault, nothing accepted is lost")
-
-
-if __name__ == "__main__":
-    try:
-        main()
-    except Wrong as wrong:
-        sys.exit(f"faults: {wrong}")

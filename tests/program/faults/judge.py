@@ -5,8 +5,6 @@ Nothing that was accepted may be lost. Only the lines whose calls failed may be 
 and the status must be the right one. Beyond what was accepted the file may hold one more command: that of a line that was
 answered `fault` and after which nothing was accepted.
 """
-from __future__ import annotations
-
 import re
 from typing import Any
 
@@ -19,6 +17,7 @@ from life_tools.scripts.lines import Line, lanes_of, lines_in
 from life_tools.reserves.exact import Known
 from life_tools.tables.basis import BasisRow
 from tests.program.faults.runs import Ended
+from tests.rules import policies as rules
 
 # the last line of a run that ends before its lanes begin, by its exit status
 LAST_LINES = {6: "readfault\n", 8: "diskfault\n", 9: "nomemory\n"}
@@ -162,12 +161,21 @@ def judge_early_end(ended: Ended, status: int, before: bytes) -> None:
 
 def due_of(lines: list[Line], kept: list[Command]) -> list[Command]:
     """Returns the commands that are accepted from a clerk's lines after these commands, if no other clerk uses the policies."""
-    book = Book(kept)
+    book = rules.Book(kept)
     for line in lines:
         after = book.decide(line.command) if line.command else None
-        if after and not isinstance(after, Refusal):
+        if after and not isinstance(after, rules.Refusal):
             book.take(line.posted, after)
     return book.commands[len(kept):]
+
+
+def demand_lawful(commands: list[Command]) -> None:
+    """Raises Wrong unless the independent rules accept these commands one after the other."""
+    book = rules.Book()
+    for command in commands:
+        after = book.decide(command)
+        demand(not isinstance(after, rules.Refusal), f"the rules refuse record {len(book.commands) + 1}: {command}")
+        book.post(command)
 
 
 def judge_unanswered(script: bytes, before: bytes, after: bytes, is_whole: bool) -> int:
@@ -201,7 +209,7 @@ def judge_lacking(script: bytes, before: bytes, after: bytes) -> int:
         demand(command.number in clerk_of, f"a record was never asked for: {','.join(words_of(command))}")
         lane = clerk_of[command.number]
         demand(command in unread[lane], f"clerk {lane}'s records aren't some of its postings, in order")
-    Book(found)
+    demand_lawful(found)
     return len(found) - len(kept)
 
 

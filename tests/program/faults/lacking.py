@@ -3,8 +3,6 @@
 The output must be the right text, or report that memory was lacking: `nomemory` before the first posting, lines answered
 `nomemory`, or a prefix of the text; in each of these cases with status 9. The file must hold what was accepted.
 """
-from __future__ import annotations
-
 import os
 from dataclasses import dataclass
 
@@ -47,7 +45,6 @@ class Lacking:
         return desk
 
     def judge(self, ended: Ended) -> str:
-        """Judges how the run ended, and returns a word for it."""
         demand(ended.status in (0, 9), f"status {ended.status}, and {ended.text[:200]!r} {ended.complaints[:200]!r}")
         demand(not ended.complaints, f"on standard error: {ended.complaints[:200]!r}")
         demand(self.mode.posts or ended.after == self.mode.before, "the file was touched")

@@ -1,13 +1,11 @@
 """Runs the program under falling limits of its address space, from ample to none.
 
-usage: python3 -m tests.program.faults.memory PROGRAM FOLDER SEED
+usage: python3 -m tests.program.harness faults.memory PROGRAM FOLDER SEED
 
 The output must be that of a run which may be out of memory. In two cases the system ends the program, which then can print
 nothing, as docs/reference/statuses.md states: below some limit the program can't be loaded; and if memory ends exactly where the
 stack of the first thread has to grow, the system can only send a signal. strace records the address of such a signal.
 """
-from __future__ import annotations
-
 import collections
 import os
 import random
@@ -124,10 +122,3 @@ def main() -> None:
     print(f"faults: {sum(seen.values())} limits of memory: {seen['right']} right texts, {seen['nomemory']} ended with "
           f"nomemory, {seen['in part'] + seen['cut']} with a part; {seen['not loaded']} were too small to load the "
           f"program, and {seen['stack']} ended where its stack had to grow")
-
-
-if __name__ == "__main__":
-    try:
-        main()
-    except Wrong as wrong:
-        sys.exit(f"faults: {wrong}")

@@ -1,13 +1,11 @@
 """Runs the program with one request for memory refused; each of its requests is refused in a run of its own.
 
-usage: python3 -m tests.program.faults.refused PROGRAM FOLDER LIBRARY    (LIBRARY is refuse_nth.c, built)
+usage: python3 -m tests.program.harness faults.refused PROGRAM FOLDER LIBRARY    (LIBRARY is refuse_nth.c, built)
 
 All other memory is given. So at most one line is answered `nomemory`, and if the text is cut, all lines were processed. If
 several threads run, one run may make fewer requests than another; a run in which no request is refused must print the right text.
 If a mode makes more than some hundred requests, the later ones are sampled at even distances.
 """
-from __future__ import annotations
-
 import collections
 import os
 import re
@@ -138,10 +136,3 @@ def main() -> None:
         print("faults: a preview asks for memory in its own way, so no request is refused; the proved program's are")
         return
     try_all(program, folder, library)
-
-
-if __name__ == "__main__":
-    try:
-        main()
-    except Wrong as wrong:
-        sys.exit(f"faults: {wrong}")

@@ -1,7 +1,5 @@
 """Runs the program in a folder that the test lays out: a journal, a checkpoint, a script, and a command such as strace before
 the program's own arguments."""
-from __future__ import annotations
-
 from typing import Any
 import os
 import shutil
@@ -102,7 +100,6 @@ class Desk:
         self.judge_kept()
 
     def judge_kept(self) -> None:
-        """Demands that a checkpoint that is left doesn't change what `state` prints."""
         if os.path.exists(self.path(KEPT)):
             beside = self.run(["state"])
             os.remove(self.path(KEPT))

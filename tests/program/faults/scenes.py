@@ -1,14 +1,12 @@
 """The scenes that are run while something fails: arguments, script, whether there is a journal, and the calls that must be
 made."""
-from __future__ import annotations
-
 from dataclasses import dataclass
 
-from tests.program.faults.runs import JOURNAL, KEPT  # noqa: F401: it also puts tools/ on the path
+from tests.program.faults.runs import JOURNAL, KEPT
+from tests.rules.policies import Book
 from life_tools.journal.checkpoints import bytes_of_checkpoint, checkpoint_of
 from life_tools.rules.commands import Command
 from life_tools.common.formats import day_in
-from life_tools.rules.policies import Book
 from typing import Any
 
 # Two clerks with policies of their own. The second has the policies of whole life, and asks for values. The first thread runs the
@@ -61,7 +59,6 @@ def book_before() -> Book:
 
 
 def checkpoint_before(count: int | None) -> bytes:
-    """Returns a checkpoint of the first `count` commands of that book."""
     return b"" if count is None else bytes_of_checkpoint(checkpoint_of(book_before().commands[:count]))
 
 

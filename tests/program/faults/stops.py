@@ -1,12 +1,10 @@
 """Stops the program: by signals at random moments of runs and of openings, and by an output that is closed before the text ends.
 
-usage: python3 -m tests.program.faults.stops PROGRAM FOLDER QUICK SEED
+usage: python3 -m tests.program.harness faults.stops PROGRAM FOLDER QUICK SEED
 
 In half of the runs the journal lies in FOLDER, on a real disk, where syncs take most of the time; in the others it lies in QUICK,
 a disk in memory. tests/program/kills kills runs that have no valuations; here two valuations run.
 """
-from __future__ import annotations
-
 import os
 import random
 import signal
@@ -33,7 +31,6 @@ OPENING = [["state"], ["checkpoint"], ["state", "7"], ["value", "2021-01-01"], [
 
 
 def span_of(desk: Any, words: list[str]) -> Any:
-    """Returns how long an undisturbed run takes in seconds, and how it ended."""
     start = time.perf_counter()
     ended = desk.run(words)
     return time.perf_counter() - start, ended
@@ -47,8 +44,6 @@ def stop(desk: Any, words: list[str], delay: float, number: int) -> Any:
 
 
 class Runs:
-    """Runs of eight clerks with two valuations, which are stopped."""
-
     def __init__(self, program: str, folder: str) -> None:
         self.desk = Desk(program, folder)
         self.before, self.script = file_of(many_policies(BEFORE).commands), eight_clerks(EACH, BEFORE)
@@ -172,10 +167,3 @@ def main() -> None:
           f"and {OPENINGS} openings of {LARGE} records, "
           f"{sum(it.amid for it in openings)} before their end: nothing is lost; a closed pipe gives 7, and keeps the postings; "
           "a pause changes nothing")
-
-
-if __name__ == "__main__":
-    try:
-        main()
-    except Wrong as wrong:
-        sys.exit(f"faults: {wrong}")

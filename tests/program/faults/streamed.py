@@ -1,13 +1,11 @@
 """Checks that a transcript is seen while its run goes on.
 
-usage: python3 -m tests.program.faults.streamed PROGRAM FOLDER SEED KILLS
+usage: python3 -m tests.program.harness faults.streamed PROGRAM FOLDER SEED KILLS
 
 Each line is printed as soon as its place is settled. A reader that stops, or that leaves, delays no posting. What a killed run
 has printed is a prefix that agrees with its journal. At no moment of a run of eight clerks have more accepted lines been written
 than commit bytes are safe.
 """
-from __future__ import annotations
-
 import os
 import random
 import re
@@ -142,7 +140,3 @@ def main() -> None:
     print("streamed: lines come while a run goes on; a reader that stops or leaves holds up no posting; "
           f"of {kills} killed runs {printed} had printed a front, which stands in the journal; "
           "no line is written before its record is safe")
-
-
-if __name__ == "__main__":
-    main()

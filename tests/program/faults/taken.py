@@ -1,6 +1,6 @@
 """Takes the journal of a run away while strace delays a call: removes it, renames it, replaces it by another file, or cuts it.
 
-usage: python3 -m tests.program.faults.taken PROGRAM FOLDER [DEED KIND K | link]
+usage: python3 -m tests.program.harness faults.taken PROGRAM FOLDER [DEED KIND K | link]
 
 With a deed and a call, or with `link`, only this one is tried.
 
@@ -8,8 +8,6 @@ From then on no line may be answered `accepted`, and the status is 8. What was a
 a file that took its place isn't changed. If the journal's name is a symbolic link, this holds for the file to which it leads, and
 the folder of that file is synced.
 """
-from __future__ import annotations
-
 import concurrent.futures
 import os
 import re
@@ -58,7 +56,6 @@ DEEDS = [remove, rename, replace, cut]
 
 
 def wait_until_still(desk: Any, run: Any) -> None:
-    """Waits until the program makes no progress, because its call is delayed."""
     last, since = None, time.monotonic()
     still = STILL_LONG if is_preview(desk.program) else STILL
     while run.poll() is None and time.monotonic() - since < still:
@@ -74,7 +71,6 @@ def wait_until_still(desk: Any, run: Any) -> None:
 
 
 def held_up(desk: Any, kind: str, k: Any) -> Any:
-    """Starts a run of the four lines in which a call is delayed."""
     span = HELD_UP_LONG if is_preview(desk.program) else HELD_UP
     hold = ["-e", f"trace={kind}", "-e", f"inject={kind}:delay_enter={span}:when={k}"]
     return desk.start(["run"], ["strace", "-f", "-qq", "-o", desk.path("log"), "-P", desk.path(JOURNAL), "-P", JOURNAL, *hold])
@@ -160,10 +156,3 @@ def main() -> None:
     print(f"faults: {len(tried)} runs whose journal was removed, renamed, replaced or cut end with 8, {faults} lines are "
           f"answered "
           "fault, and none behind them is accepted; a symbolic link is followed")
-
-
-if __name__ == "__main__":
-    try:
-        main()
-    except Wrong as wrong:
-        sys.exit(f"faults: {wrong}")

@@ -1,23 +1,21 @@
 """Tries right files in which one byte is changed: set to 0, 1, 2, 127 or 255, or with one bit inverted. Each changed file is a
 case, for which the program must do what docs/reference/ says.
 
-usage: python3 -m tests.program.hostile.changed_bytes PROGRAM FOLDER SECONDS PART PARTS [SEED]
+usage: python3 -m tests.program.harness hostile.changed_bytes PROGRAM FOLDER SECONDS PART PARTS [SEED]
 
 The files are a journal of forty records of all kinds, its script, a basis file, a table and a select table. The cases are taken
 in an order drawn by the seed, one part of PARTS, until the time is over and at least two hundred were tried. If SECONDS is `all`,
 every case of the part is tried.
 """
-from __future__ import annotations
-
 import os
 import random
 import sys
 
 from tests.program.hostile.trial import Trial, judge_basis, judge_journal, judge_posting, judge_script, judge_table, try_for
+from tests.rules.policies import Book
 from life_tools.journal.file import file_of
 from life_tools.scripts.lines import lines_in
 from life_tools.common.formats import KINDS, Wrong, demand
-from life_tools.rules.policies import Book
 
 VALUES = (0, 1, 2, 127, 255)
 HERE = os.path.dirname(os.path.abspath(__file__))
@@ -58,24 +56,20 @@ def book_of_values() -> Book:
 
 
 def files(book: Book) -> dict[str, bytes]:
-    """Returns each file by its kind."""
     return {"journal": file_of(book.commands), "script": script_of_forty() + b"2,trim\n3,value,2021-01-01,7,64\n", "basis": BASIS,
             "table": TABLE, "select": SELECT}
 
 
 def changes(byte: int) -> list[int]:
-    """Returns the values to which a byte is changed."""
     return sorted({*VALUES, *(byte ^ 1 << bit for bit in range(8))} - {byte})
 
 
 def cases(book: Book) -> list[tuple[str, int, int]]:
-    """Returns all cases, each as a kind, a place and the new byte."""
     return [(kind, place, new) for kind, data in files(book).items() for place in range(len(data))
             for new in changes(data[place])]
 
 
 def judge(trials: dict[str, Trial], book: Book, case: tuple[str, int, int]) -> str:
-    """Judges what the program does with a case, and returns a word for it."""
     kind, place, new = case
     data = bytearray(files(book)[kind])
     data[place] = new
@@ -102,7 +96,3 @@ def main() -> None:
             sys.exit(f"hostile: byte {case[1]} of the {case[0]} set to {case[2]} (files in {trials[case[0]].folder}): {wrong}")
 
     try_for(float("inf") if seconds == "all" else float(seconds), mine, try_one, f"of {len(mine)} changed bytes")
-
-
-if __name__ == "__main__":
-    main()

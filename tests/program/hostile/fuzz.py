@@ -1,23 +1,21 @@
 """Tries drawn scripts, arguments, journals, checkpoints, basis files and tables, most of them spoilt. The program must do with
 each what docs/reference/ says, without a signal, output on standard error, or a hang.
 
-usage: python3 -m tests.program.hostile.fuzz PROGRAM FOLDER SECONDS SEED [CASE]
+usage: python3 -m tests.program.harness hostile.fuzz PROGRAM FOLDER SECONDS SEED [CASE]
 
 The cases of a seed are numbered from 0 on. They are taken until the time is over and at least two hundred were tried, or until
 twelve thousand were tried, so that CI tries no other cases on a faster machine. With CASE only this one is tried.
 """
-from __future__ import annotations
-
 import os
 import random
 import sys
 
 from tests.program.hostile.changed_bytes import BASIS, SELECT, TABLE, book_of_forty, book_of_values, script_of_forty
 from life_tools.common.formats import Wrong
-from life_tools.rules.policies import Book
 from tests.support.drawn_scripts import MIDDLE, make_script
 from tests.program.hostile.trial import (ROOT, Trial, judge_basis, judge_checkpoint, judge_journal, judge_posting, judge_script,
                                          judge_table, judge_words, try_for)
+from tests.rules.policies import Book
 from life_tools.journal.checkpoints import bytes_of_checkpoint, checkpoint_of
 from life_tools.journal.file import file_of
 
@@ -75,7 +73,6 @@ SCRIPT = b"1,issue,77,2020-01-01,endowment,0,3,1000.00,400.00\n8,lapse,77,2020-0
 
 
 def spoilt(draw: random.Random, data: bytes, tokens: list[bytes], most: int) -> bytes:
-    """Returns the data with at most `most` changes."""
     data = bytearray(data)
     for _ in range(draw.randrange(most + 1)):
         place, what = draw.randrange(len(data) + 1), draw.randrange(8)
@@ -145,7 +142,6 @@ def drawn_words(draw: random.Random) -> list[bytes]:
 
 
 def tables(root: str) -> list[bytes]:
-    """Returns tables by age, and select tables in each layout."""
     found = [TABLE, TABLE, SELECT, SELECT, MIDDLE.encode()]
     for name in ("g.xml", "select.xml", "select-inner.xml"):
         with open(os.path.join(root, "examples", name), "rb") as file:
@@ -154,7 +150,6 @@ def tables(root: str) -> list[bytes]:
 
 
 def judge(trials: dict[str, Trial], book: Book, draw: random.Random, kind: str) -> str:
-    """Judges what the program does with a drawn case, and returns a word for it."""
     trial = trials[kind]
     if kind == "script":
         return judge_script(trial, drawn_script(draw))
@@ -183,7 +178,3 @@ def main() -> None:
             sys.exit(f"hostile: case {case} of seed {seed} (files in {trials[kind].folder}): {wrong}")
 
     try_for(float(seconds), only or range(MOST), try_one, f"drawn cases of seed {seed}")
-
-
-if __name__ == "__main__":
-    main()

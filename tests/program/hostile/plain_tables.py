@@ -3,8 +3,6 @@
 It accepts all files of the profile, some of which are not XML. The checks after the document is read are those of
 tools/life_tools/tables/basis.py.
 """
-from __future__ import annotations
-
 import re
 
 from life_tools.tables.basis import MARK, MOST_DEPTH, BadBasis, Element, SelectTable, Table, table_of

@@ -1,7 +1,5 @@
 """Reads the arguments of a command line in a plain way (docs/reference/commands.md), and gives the shape of the output of
 each."""
-from __future__ import annotations
-
 import datetime
 import re
 from dataclasses import dataclass

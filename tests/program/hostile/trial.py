@@ -4,14 +4,13 @@ The judges use the readers in tools/, and for tables and arguments the plain rea
 program does anything else: another line, another status, a signal, output on standard error, a file that was changed, or no
 output within a time that no such case needs.
 """
-from __future__ import annotations
-
 import collections
 import os
 import subprocess
 import time
 import zlib
 from collections.abc import Callable, Iterable
+from dataclasses import astuple
 from typing import Any
 
 from life_tools.reserves.projection_check import check_years
@@ -22,10 +21,10 @@ from life_tools.common.formats import MEASURES, MOST_BASIS_BYTES, Wrong, day_in,
 from life_tools.journal.file import EMPTY, file_of, gate_of, read_journal
 from tests.program.hostile.plain_tables import read_plain_table
 from tests.program.hostile.plain_words import meaning_of
+from tests.rules.policies import Book, Policy, Refusal, balances_of, booking_of
 from life_tools.reserves.projections import printed_projection
-from life_tools.rules.policies import Book, Policy, Refusal, balances_of, booking_of
 from life_tools.scripts.lines import Fault, lines_in, read_script
-from tests.support.drawn_scripts import folder_for
+from tests.support.drawn_scripts import folder_for, for_tools
 from life_tools.tables.basis import BasisRow, NotXml, SelectTable, Table, read_basis, read_table
 from life_tools.rules.commands import Command
 from life_tools.reserves.exact import Known
@@ -77,7 +76,6 @@ class Trial:
             os.remove(self.path(name))
 
     def run(self, *words: Any, script: bytes = b"", seconds: int = SECONDS) -> tuple[int, str]:
-        """Runs the program, and returns its status and what it printed."""
         try:
             ran = subprocess.run([self.program, *words], cwd=self.folder, input=script, capture_output=True, timeout=seconds)
         except subprocess.TimeoutExpired:
@@ -118,7 +116,7 @@ def judge_journal(trial: Trial, data: bytes) -> str:
     if journal.refused:
         demand_answer(found, 5, journal.refused + "\n", "state")
     else:
-        demand_answer(found, 0, state_of(journal.book), "state")
+        demand_answer(found, 0, state_of(Book(journal.commands)), "state")
     demand(trial.read("journal.life") == (EMPTY if journal.is_unfinished else data), "state changed the file")
     return journal.refused.rsplit(",", 1)[0] or "opened"
 
@@ -126,7 +124,7 @@ def judge_journal(trial: Trial, data: bytes) -> str:
 def state_from(checkpoint: Checkpoint, commands: list[Command]) -> tuple[int, str]:
     """Returns the status and the text of `state` if it begins with this checkpoint, whether or not it belongs to this journal."""
     book, balances = Book(), dict(checkpoint.balances)
-    book.policies = {policy.number: policy for policy in checkpoint.policies}
+    book.policies = {policy.number: Policy(*astuple(policy)) for policy in checkpoint.policies}
     book.upgrade, book.commands = checkpoint.upgrade, list(commands[:checkpoint.position])
     for record in range(checkpoint.position, len(commands)):
         command = commands[record]
@@ -167,7 +165,6 @@ def judge_checkpoint(trial: Trial, data: bytes, book: Book) -> str:
 
 
 def judge_posting(trial: Trial, data: bytes) -> str:
-    """Judges a run of one issue over any bytes as journal.life."""
     trial.write("journal.life", data)
     journal = read_journal(data)
     script = f"1,issue,{FRESH},2020-01-01,endowment,0,3,1000.00,400.00\n".encode()
@@ -219,7 +216,7 @@ def judge_values(trial: Trial, basis: list[BasisRow], book: Book, wanted: str, d
     rows = printed_rows(text)
     demand(status == 0 and rows[0][:4] == ["0", "value", ON, str(len(book.commands))],
            f"value: the answer is {status}, {text[:300]!r}")
-    check_block(rows, list(book.policies.values()), basis, {}, measure)
+    check_block(rows, list(map(for_tools, book.policies.values())), basis, {}, measure)
 
 
 def judge_basis(trial: Trial, data: bytes, book: Book) -> str:
@@ -287,8 +284,8 @@ def judge_words(trial: Trial, words: list[bytes], script: bytes, book: Book) -> 
     rows = printed_rows(found[1]) if meaning.mode == "value" and found[0] == 0 else []
     if rows:
         policies = Book(book.commands[:int(rows[0][3])]).policies
-        check_block(rows, list(policies.values()), trial.basis() or [], trial.known, meaning.measure)
+        check_block(rows, list(map(for_tools, policies.values())), trial.basis() or [], trial.known, meaning.measure)
     if meaning.mode == "project" and found[0] == 0:
-        check_years(printed_projection(found[1]), list(book.policies.values()), trial.basis() or [])
+        check_years(printed_projection(found[1]), list(map(for_tools, book.policies.values())), trial.basis() or [])
     demand(after == file_of(book.commands), f"{words}: journal.life was changed")
     return meaning.mode if meaning.measure == "terminal" else f"{meaning.mode} by {meaning.measure}"

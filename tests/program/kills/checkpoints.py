@@ -1,14 +1,11 @@
-#!/usr/bin/env python3
 """Kills `life checkpoint`, and `life run` in a folder with a checkpoint, with SIGKILL at random moments. After each kill it
 demands that `state` prints what it prints without the checkpoint, and that the file holds no checkpoint or that of a prefix of
 the journal.
 
-usage: PYTHONPATH=tools python3 -m tests.program.kills.checkpoints PROGRAM FOLDER KILLS SEED
+usage: python3 -m tests.program.harness kills.checkpoints PROGRAM FOLDER KILLS SEED
 
 FOLDER is made, and is left as it is. The seed fixes what is drawn, not when a kill happens.
 """
-from __future__ import annotations
-
 import os
 import random
 import shutil
@@ -116,6 +113,3 @@ def main() -> None:
             sys.exit(f"checkpoints: round {number} of seed {seed}: {wrong}; the files are kept in {folder}")
     demand(killed >= kills // 8, f"of {kills} rounds {killed} were killed before their end")
     print(f"{killed} of {kills} killed; left: {office.kinds}")
-
-
-main()

@@ -10,8 +10,6 @@ kills left. The seed fixes what is drawn, not when a kill happens. The files lie
 in the parent of the current folder; it is removed if all rounds are right and kept if a round fails. A run that ends before its
 kill is judged like the others, but isn't counted as a kill.
 """
-from __future__ import annotations
-
 import argparse
 import os
 import random
@@ -40,7 +38,6 @@ def need(holds: bool | list[int], text: str) -> None:
 
 
 def read_bytes(path: str) -> bytes | None:
-    """Returns the bytes of a file, or None if there is no file."""
     if not os.path.exists(path):
         return None
     with open(path, "rb") as file:
@@ -54,7 +51,6 @@ def gate_of(n: int) -> int:
 
 
 def body(policy: int) -> bytes:
-    """Returns the body that the program must write for a line of `Office.start`."""
     return (bytes([1, 3, 0, 3]) + policy.to_bytes(4, "big") + (18262).to_bytes(4, "big")
             + (100000).to_bytes(8, "big") + (40000).to_bytes(8, "big") + bytes(36))
 
@@ -65,7 +61,6 @@ def prefix_of(policies: list[int]) -> bytes:
 
 
 def is_unfinished(image: bytes) -> bool:
-    """Returns whether the file is an unfinished creation of a journal."""
     if len(image) <= 1:
         return True
     if image[0] == 0:
@@ -84,8 +79,6 @@ def open_gates(image: bytes) -> int:
 # The runs.
 
 class Office:
-    """A folder with a journal, and the ids of its records."""
-
     def __init__(self, folder: str, start: bytes | None = None) -> None:
         shutil.rmtree(folder, ignore_errors=True)
         os.mkdir(folder)
@@ -102,7 +95,6 @@ class Office:
         return read_bytes(self.path(JOURNAL))
 
     def start(self, policies: list[int], name: str) -> subprocess.Popen[bytes]:
-        """Starts the program on a script with one line for each id."""
         with open(self.path(name + ".csv"), "w") as script:
             script.writelines("1,issue,%d,2020-01-01,endowment,0,3,1000.00,400.00\n" % policy for policy in policies)
         with open(self.path(name + ".csv")) as script, open(self.path(name + ".out"), "wb") as out:
@@ -110,8 +102,6 @@ class Office:
 
 
 class Ids:
-    """Gives out ids that were never given out before, in no order."""
-
     def __init__(self) -> None:
         self.given = 0
 

@@ -1,14 +1,12 @@
 """Runs the program on random scripts of eight clerks, and judges what it prints and leaves.
 
-usage: python3 -m tests.program.stress.run_scripts PROGRAM ROOT FOLDER QUICK SCRIPTS [FIRST_SEED]
+usage: python3 -m tests.program.harness stress.run_scripts PROGRAM ROOT FOLDER QUICK SCRIPTS [FIRST_SEED]
 
 Two scripts run in each new folder, the second on the journal of the first, and what they leave is valued by each measure. In one
 of four folders the first script has a book of many policies, so that a valuation takes several reads while others post and trim
 between them. One of four folders is made in FOLDER, on a real disk, where a posting takes long and the others wait; three are
 made in QUICK. If a run isn't right, its files are left.
 """
-from __future__ import annotations
-
 import collections
 import os
 import random
@@ -18,6 +16,7 @@ import sys
 from typing import Any
 
 
+from tests.rules.policies import Book
 from tests.support.drawn_scripts import draws, folder_for, make_book, make_script, value_words, valued_on
 from life_tools.scripts.transcript_check import check
 from life_tools.reserves.valuation_check import check_block
@@ -40,7 +39,6 @@ def bytes_of(path: str) -> Any:
 
 
 def run_pair(program: str, root: str, folder: str, seed: int, known: Any, seen: Any) -> None:
-    """Runs two scripts, one after the other, in a new folder, and judges them."""
     folder_for(folder, root)
 
     def path(name: str) -> str:
@@ -52,7 +50,7 @@ def run_pair(program: str, root: str, folder: str, seed: int, known: Any, seen: 
             file.write(file_of(make_book(draw, MANY).commands))
     for number in (1, 2):
         before = bytes_of(path("journal.life"))
-        script = make_script(draw, read_journal(before).book)
+        script = make_script(draw, Book(read_journal(before).commands))
         for name, content in ((f"script-{number}", script.encode()), (f"before-{number}", before)):
             with open(path(name), "wb") as file:
                 file.write(content)
@@ -90,7 +88,6 @@ def value_by_each(program: str, folder: str, draw: random.Random, basis: list[Ba
 
 
 def count(text: str, accepted: Any, seen: Any) -> None:
-    """Counts in `seen` what a transcript contains."""
     changes, last = 0, None
     for line in printed_rows(text):
         seen["paid-up rows"] += line[0] == "row" and line[2] == "paidup"
@@ -127,7 +124,3 @@ def main() -> None:
           f"{len(reasons)} reasons, {seen['valuations']} valuations with {seen['paid-up rows']} paid-up rows, {seen['trims']} "
           f"trims of which {seen['trims below the count']} below the count; the clerk changes {seen['changes of clerk']} times; "
           f"{seen['rows by deficiency']} rows by each measure, of which {seen['rows short']} have a short premium")
-
-
-if __name__ == "__main__":
-    main()

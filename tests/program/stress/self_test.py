@@ -1,9 +1,7 @@
 """Tests the judge of transcripts: it must refuse right transcripts of an independent office model in which one thing is changed.
 
-usage: python3 -m tests.program.stress.self_test ROOT FOLDER
+usage: python3 -m tests.program.harness stress.self_test ROOT FOLDER
 """
-from __future__ import annotations
-
 import collections
 import os
 import random
@@ -13,11 +11,11 @@ from collections.abc import Callable, Iterator
 from typing import Any
 
 
+from tests.rules.policies import Book
 from tests.support.drawn_scripts import Office, draws, folder_for, make_script
 from life_tools.scripts.transcript_check import check
 from life_tools.common.formats import Wrong, money
 from life_tools.journal.file import file_of, read_journal
-from life_tools.rules.policies import Book
 from life_tools.tables.basis import read_basis
 from life_tools.reserves.exact import Known
 
@@ -30,7 +28,6 @@ def cents_of(text: str) -> int:
 
 
 def places(draw: random.Random, lines: list[str], pattern: str) -> list[int]:
-    """Returns the places of some of the lines that match the pattern."""
     found = [i for i, line in enumerate(lines) if re.search(pattern, line)]
     return draw.sample(found, min(PLACES, len(found)))
 
@@ -132,7 +129,7 @@ def main() -> None:
         book = Book()
         Office(draw, book, basis, known).run(script_before)
         before = file_of(book.commands)
-        script = make_script(draw, read_journal(before).book)
+        script = make_script(draw, Book(read_journal(before).commands))
         text = Office(draw, book, basis, known).run(script)
         after = file_of(book.commands)
         check(script.encode(), text, before, after, basis, known)
@@ -152,7 +149,3 @@ def main() -> None:
         sys.exit(f"stress: never tried: {missing}")
     print(f"stress: the checker refuses {sum(refused.values())} changed transcripts and journals, of {len(refused)} kinds "
           f"of change")
-
-
-if __name__ == "__main__":
-    main()

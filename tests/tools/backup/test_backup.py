@@ -1,15 +1,12 @@
 """Tests what `life-tools backup` copies and what it leaves, what it refuses, and the book that `restore` makes from a copy."""
-from __future__ import annotations
-
 import fcntl
 import hashlib
 import os
 import re
 import subprocess
 import sys
-from contextlib import contextmanager
 from pathlib import Path
-from typing import Callable, Iterator
+from typing import Callable
 
 import pytest
 
@@ -30,7 +27,6 @@ exec sh -c "$*"
 
 
 def issues(count: int) -> bytes:
-    """Returns a journal of this number of policies."""
     return file_of([Command("issue", number, DAY, plan="whole", age=30, years=0, amount=100000, premium=2000)
                     for number in range(1, count + 1)])
 
@@ -63,7 +59,6 @@ def prefix_of(copy: Path) -> bytes:
 
 
 def everything(copy: Path) -> dict[str, bytes]:
-    """Returns the bytes of all files of a copy."""
     return {str(path.relative_to(copy)): path.read_bytes() for path in copy.rglob("*") if path.is_file() and path.name != ".lock"}
 
 
@@ -135,19 +130,11 @@ def test_only_what_was_added_is_written_and_nothing_is_locked(book: Folder, copy
 
 # --- what may not be safe yet ---
 
-@contextmanager
-def held(book: Folder) -> Iterator[None]:
-    """Locks the journal, as a run does."""
-    with open(book.journal, "rb") as file:
-        fcntl.flock(file, fcntl.LOCK_EX)
-        yield
-
-
 @pytest.mark.parametrize("behind, count", [(b"", 4), (bytes(30), 5), (bytes(65), 5)],
                          ids=["not acknowledged", "the next one is being written", "the next one is written"])
 def test_of_a_run_that_goes_on_the_last_posting_waits_for_the_next(book: Folder, copy: Path, behind: bytes, count: int) -> None:
     book.write("journal.life", issues(5) + behind)
-    with held(book):
+    with book.in_use():
         said = backed_up(book, [str(copy)], count, count)
     assert ("1 postings of a run that goes on" in said.err) == (count == 4)
     backed_up(book, [str(copy)], 5, 5 - count)
@@ -155,7 +142,7 @@ def test_of_a_run_that_goes_on_the_last_posting_waits_for_the_next(book: Folder,
 
 def test_what_was_copied_stays_copied_when_the_next_run_begins(book: Folder, copy: Path) -> None:
     backed_up(book, [str(copy)], 5, 5)
-    with held(book):
+    with book.in_use():
         backed_up(book, [str(copy)], 5, 0)
 
 
@@ -277,7 +264,7 @@ def test_what_the_log_knows_more_is_posted_anew(book: Folder, place: list[str]) 
     os.utime(handed_in, (1, 1))
     assert book.tools("day", *day).status == 0
     # the last posting isn't copied, because the journal is in use and the posting may not be safe yet; the log is copied whole
-    with held(book):
+    with book.in_use():
         backed_up(book, place, 1, 0)
     ended = book.tools("restore", *place, "--folder", "../restored")
     assert ended.status == 1 and "day --restored" in ended.err, ended

@@ -1,6 +1,4 @@
 """Tests a backup after a failure of the disk: it copies what the disk has, whatever the system keeps in memory."""
-from __future__ import annotations
-
 import os
 from pathlib import Path
 from typing import Iterator

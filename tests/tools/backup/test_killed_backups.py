@@ -4,8 +4,6 @@ Measured by hand on 2026-12-01, with LIFE_TRIAL_KILLS=1000 and LIFE_TRIAL_SEED=1
 rounds, of the backup, the run or both, over 11 books, in 23 minutes. Each copy was right, and after each last backup nothing was
 missing.
 """
-from __future__ import annotations
-
 import os
 import random
 

@@ -1,6 +1,4 @@
 """Tests a list with one bad book: the other books are still processed, and every command gives the bad book the same status."""
-from __future__ import annotations
-
 import shutil
 
 import pytest

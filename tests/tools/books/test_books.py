@@ -1,21 +1,17 @@
 """Tests `books`: many books are valued, projected and added up, compared with a run of each; a book that fails is reported,
 and never left out."""
-from __future__ import annotations
-
 import csv
-import fcntl
 import hashlib
 import json
 import os
 import re
-import shlex
 import shutil
 import sqlite3
 import subprocess
 import sys
-import threading
 from collections import Counter
 from pathlib import Path
+from typing import Callable
 
 import pytest
 
@@ -30,7 +26,6 @@ VALUE = ["books", "books.csv", "value", "2010-12-31"]
 
 @pytest.fixture(scope="module")
 def drawn(tmp_path_factory: pytest.TempPathFactory) -> Path:
-    """A folder with three books of 120 policies each."""
     folder = tmp_path_factory.mktemp("three")
     words = [sys.executable, str(EXAMPLES / "many_books.py"), ".", "3", "120"]
     subprocess.run(words, cwd=folder, check=True, capture_output=True)
@@ -140,41 +135,29 @@ def fails(ended: Ended, status: int, line: str) -> None:
     assert re.search("^all,total,.*,2,3$", ended.out, re.M), ended
 
 
-def test_a_book_without_a_journal(three: Folder) -> None:
-    (three.path / "book2/journal.life").unlink()
-    fails(three.tools(*VALUE, "--totals"), 2, "there is no .*book2/journal.life")
-    assert not (three.path / "book2/journal.life").exists()
-
-
-def test_a_journal_cut_short(three: Folder) -> None:
-    os.truncate(three.path / "book2/journal.life", 100)
-    fails(three.tools(*VALUE, "--totals"), 5, "badjournal,badrecord,1")
-
-
-def test_a_book_without_its_table(three: Folder) -> None:
-    (three.path / "book2/g.xml").unlink()
-    fails(three.tools(*VALUE, "--totals"), 4, "badbasis,g.xml,1,absent")
+@pytest.mark.parametrize("change, status, line", [
+    (lambda book: book.journal.unlink(), 2, "there is no .*book2/journal.life"),
+    (lambda book: os.truncate(book.journal, 100), 5, "badjournal,badrecord,1"),
+    (lambda book: (book.path / "g.xml").unlink(), 4, "badbasis,g.xml,1,absent"),
+], ids=["no journal", "a journal cut short", "no table"])
+def test_a_book_that_lacks_a_file(three: Folder, change: Callable[[Folder], None], status: int, line: str) -> None:
+    change(three.below("book2"))
+    before = three.files()
+    fails(three.tools(*VALUE, "--totals"), status, line)
+    assert three.files().keys() == before.keys()
 
 
 def test_a_book_in_use_and_who_waits_for_it(three: Folder) -> None:
-    with open(three.path / "book2/journal.life", "rb") as held:
-        fcntl.flock(held, fcntl.LOCK_EX)
+    with three.below("book2").in_use():
         fails(three.tools(*VALUE, "--totals"), 8, f"diskfault: .*book2/journal.life is in use by process {os.getpid()}")
-        waits = threading.Timer(2, lambda: fcntl.flock(held, fcntl.LOCK_UN))
-        waits.start()
+    with subprocess.Popen(["flock", three.path / "book2/journal.life", "sh", "-c", "echo; exec sleep 2"],
+                          stdout=subprocess.PIPE) as waits:
+        assert waits.stdout and waits.stdout.readline()
         assert re.search("^all,total,.*,3,3$", three.printed(*VALUE, "--totals", "--wait", "60"), re.M)
-        waits.join()
-
-
-def stand_in(three: Folder, text: str) -> Path:
-    """Returns a shell script that stands in for the program, which the script can call as $life."""
-    script = three.write("stand-in", f"#!/bin/sh\nlife={shlex.quote(str(three.program.path))}\n{text}\n")
-    script.chmod(0o755)
-    return script
 
 
 def test_one_that_is_well_when_it_is_tried_once_more(three: Folder) -> None:
-    flaky = stand_in(three, '[ -e tried ] || { touch tried; echo diskfault; exit 8; }\nexec "$life" "$@"')
+    flaky = three.stand_in('[ -e tried ] || { touch tried; echo diskfault; exit 8; }\nexec "$life" "$@"')
     lines = each(three, "value", "2010-12-31")
     ended = three.tools(*VALUE, program=flaky)
     assert ended.status == 0 and "tried once more: book1, book2, book3" in ended.err.splitlines(), ended
@@ -182,7 +165,7 @@ def test_one_that_is_well_when_it_is_tried_once_more(three: Folder) -> None:
 
 
 def test_a_program_that_prints_half_a_valuation(three: Folder) -> None:
-    ended = three.tools(*VALUE, program=stand_in(three, "echo 0,value,2010-12-31,0,0"))
+    ended = three.tools(*VALUE, program=three.stand_in("echo 0,value,2010-12-31,0,0"))
     assert ended.status == 2
     assert ended.out == "".join(f"{name},failed,2,it ended with 0,value,2010-12-31,0,0\n" for name in BOOKS) + "all,nothing,0,3\n"
 
@@ -193,7 +176,7 @@ def test_a_total_beyond_64_bits(three: Folder) -> None:
         shutil.copytree(three.path / "book1", three.path / name, dirs_exist_ok=True,
                         ignore=shutil.ignore_patterns("journal.life", "checkpoint.life"))
     three.write("new.csv", "new1,new1,basis.csv\nnew2,new2,basis.csv\n")
-    rich = stand_in(three, 'printf "0,value,2010-12-31,0,0\\ntotal,184467440737095516.15,184467440737095516.15,0\\n"')
+    rich = three.stand_in('printf "0,value,2010-12-31,0,0\\ntotal,184467440737095516.15,184467440737095516.15,0\\n"')
     ended = three.tools("books", "new.csv", "value", "2010-12-31", program=rich)
     assert "all,total,368934881474191032.30,368934881474191032.30,0,2,2" in ended.out.splitlines(), ended
 

@@ -1,12 +1,8 @@
 """Tests `books --scheduler`: a cluster of Dask on the loopback address, even if a worker dies or the scheduler goes away,
 prints what this machine prints, byte for byte."""
-from __future__ import annotations
-
-import fcntl
 import hashlib
 import os
 import re
-import shlex
 import subprocess
 import sys
 from collections.abc import Iterator
@@ -25,7 +21,6 @@ VALUE = ["books", "books.csv", "value", "2010-12-31", "--totals"]
 
 @pytest.fixture
 def three(folder: Folder) -> Folder:
-    """A folder with three books of 120 policies each."""
     subprocess.run([sys.executable, str(EXAMPLES / "many_books.py"), ".", "3", "120"], cwd=folder.path, check=True,
                    capture_output=True)
     return folder
@@ -63,8 +58,7 @@ def test_what_the_cluster_prints(three: Folder, cluster: Cluster) -> None:
         assert three.read(f"far/{name}.csv") == three.read(f"parts/{name}.csv")
     three.refused("books", "books.csv", "checkpoint", *there, says="not on a cluster")
     whole = (three.path / "book2/journal.life").read_bytes()
-    with open(three.path / "book2/journal.life", "rb") as held:
-        fcntl.flock(held, fcntl.LOCK_EX)
+    with three.below("book2").in_use():
         here, far = three.tools(*VALUE), three.tools(*VALUE, *there)
         assert here.status == far.status == 8 and without_process(here.out) == without_process(far.out)
     damaged = bytearray(whole)
@@ -80,9 +74,7 @@ def test_what_the_cluster_prints(three: Folder, cluster: Cluster) -> None:
 
 def test_workers_that_die_and_a_scheduler_that_goes_away(three: Folder, cluster: Cluster) -> None:
     wanted = three.printed(*VALUE)
-    life = shlex.quote(str(three.program.path))
-    slow = three.write("slow", f'#!/bin/sh\ntouch "{three.path}/begun.$$"\nsleep 2\nexec {life} "$@"\n')
-    slow.chmod(0o755)
+    slow = three.stand_in(f'touch "{three.path}/begun.$$"\nsleep 2\nexec "$life" "$@"')
 
     def begin() -> subprocess.Popen[bytes]:
         """Starts `books` on the cluster with a slow program, and waits until a book is begun."""
@@ -107,32 +99,6 @@ def test_workers_that_die_and_a_scheduler_that_goes_away(three: Folder, cluster:
     cluster.scheduler.kill()
     assert not run.communicate()[0] and run.returncode == 2
     assert f"the scheduler at {cluster.address} went away" in three.read("remarks")
-
-
-@pytest.mark.needs_proof
-def test_eight_large_books(folder: Folder) -> None:
-    """400,000 policies, valued by one run for each book, by processes, and on a cluster with shared and with sent books: the
-    output is the same, byte for byte."""
-    subprocess.run([sys.executable, str(EXAMPLES / "many_books.py"), ".", "8", "50000"], cwd=folder.path, check=True,
-                   capture_output=True)
-    names = [f"book{number}" for number in range(1, 9)]
-    each = {name: "".join(f"{name},{line}" for line in folder.below(name).life("value", "2024-12-31").out.splitlines(True))
-            for name in names}
-    totals = [each[name].splitlines()[-1].split(",")[2:] for name in names]
-    lower, upper, words = (sum(int(total[place].replace(".", "")) for total in totals) for place in range(3))
-    wanted = f"all,total,{lower // 100}.{lower % 100:02},{upper // 100}.{upper % 100:02},{words},8,8\n"
-    value = ["books", "books.csv", "value", "2024-12-31"]
-    assert folder.printed(*value, "--processes", "2") == "".join(each.values()) + wanted
-    (folder.path / "cluster").mkdir()
-    cluster = Cluster(folder.path / "cluster")
-    try:
-        there = ["--scheduler", cluster.address]
-        for place, how in enumerate((["--processes", "4"], there, ["--send", *there])):
-            parts = f"parts-{place}"
-            assert folder.printed(*value, "--parts", parts, *how).endswith(wanted)
-            assert {name: folder.read(f"{parts}/{name}.csv") for name in names} == each
-    finally:
-        cluster.end()
 
 
 # --- a worker that has another program, or reads another book ---

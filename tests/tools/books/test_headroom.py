@@ -4,10 +4,7 @@ need.
 The figures of a small book and of one with 19 commands left are worked out by hand. What drawn policies need is compared with a
 list of single commands, which is made only with the calendar of `datetime`.
 """
-from __future__ import annotations
-
 import datetime
-import fcntl
 import json
 import os
 import shutil
@@ -59,7 +56,6 @@ def gives(folder: Folder, row: str, *words: str, status: int = 0, told: int = 0)
 
 
 def noted(folder: Folder, entry: str, day: str, before: int) -> None:
-    """Writes a log entry of a run that found this number of commands."""
     folder.write(f"log/runs/{entry}/run.json", json.dumps({"begun": f"{day}T18:00:00+00:00", "before": before, "after": 9}))
 
 
@@ -162,8 +158,7 @@ def books(folder: Folder, full: Folder) -> Folder:
 def test_a_list_with_bad_books(books: Folder) -> None:
     here = os.path.realpath(books.path)
     damaged = f"{here}/damaged/journal.life: 325 bytes follow byte 277, the commit byte of record 4, which isn't 1"
-    with open(books.path / "held" / "journal.life", "rb") as held:
-        fcntl.flock(held, fcntl.LOCK_EX)
+    with books.below("held").in_use():
         ended = books.tools("books", "headroom", "books.csv", "--today", "2026-11-29")
     assert ended.status == 2
     assert ended.out == f"""book,{HEAD}\
@@ -213,7 +208,6 @@ def years_later(day: datetime.date, years: int) -> datetime.date:
 
 
 def drawn_policy(draw: Random, number: int) -> tuple[list[Command], list[datetime.date]]:
-    """Returns a policy's commands, and the days of those that it still needs."""
     plan, age = draw.choice(["term", "whole", "endowment", "limited"]), draw.randrange(0, 100)
     years = 0 if plan == "whole" else draw.randrange(2, 31)
     issued = draw.choice([datetime.date(2020, 2, 29), datetime.date(2015, 1, 1) + datetime.timedelta(draw.randrange(3600))])

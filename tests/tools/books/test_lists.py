@@ -3,10 +3,7 @@
 A book is divided. Its parts together must give what the undivided book gives: by one basis and by classes, from new rows and
 from rows that were kept. A bad book must be reported.
 """
-from __future__ import annotations
-
 import re
-import shlex
 import shutil
 from pathlib import Path
 
@@ -56,7 +53,6 @@ def position(books: Folder, name: str) -> str:
 
 
 def rows(text: str) -> list[str]:
-    """Returns the rows of all tables in a text, whatever blanks are in them."""
     found = [" ".join(line.split()) for line in text.splitlines()]
     return [line for line in found if re.search(r" -?[0-9]+\.[0-9]{2} [0-9-]", line)]
 
@@ -86,8 +82,7 @@ def test_a_report_by_rows_that_were_left(books: Folder) -> None:
     report = [*LIST, "report", "2019-12-31", "--at", "p2.csv"]
     books.printed(*LIST, "value", "2019-12-31", "--at", "p2.csv", "--parts", "rows")
     books.printed(*report, "--csv", "new-rows")
-    lazy = books.write("lazy", f'#!/bin/sh\n[ "$1" != value ] || exit 9\nexec {shlex.quote(str(books.program.path))} "$@"\n')
-    lazy.chmod(0o755)
+    lazy = books.stand_in('[ "$1" != value ] || exit 9\nexec "$life" "$@"')
     assert books.tools(*report, "--rows", "rows", "--csv", "left-rows", program=lazy).status == 0
     # each file names the program that was used, because it isn't the proved one
     for file in (books.path / "new-rows").iterdir():
@@ -210,7 +205,6 @@ def test_what_is_due(books: Folder) -> None:
 
 @pytest.fixture
 def drawn(books: Folder) -> Folder:
-    """A folder with a sample of twelve rows of the list."""
     books.write("drawn", books.printed(*LIST, "sample", "12", "--seed", "5", "--on", "2019-12-31", "--at", "p2.csv"))
     return books
 
@@ -304,23 +298,17 @@ def test_a_statement_as_a_workbook(books: Folder) -> None:
 # --- a bad book ---
 
 
-def damage(books: Folder) -> None:
-    data = bytearray((books.path / "high/journal.life").read_bytes())
-    data[17 + 65 * 9] = 0
-    books.write("high/journal.life", bytes(data))
-
-
 @pytest.mark.parametrize("words", ["report 2019-12-31", "movement 2015-12-31 2019-12-31 --from p1.csv",
                                    "statement 2015-12-31 2019-12-31 --from p1.csv", "due 2019-12-31"])
 def test_a_damaged_book_is_told(books: Folder, words: str) -> None:
-    damage(books)
+    books.below("high").damage(9)
     ended = books.tools(*LIST, *words.split(), "--at", "p2.csv")
     assert ended.status != 0 and "tried once more: high" in ended.err, ended
     assert re.search(f"^high,failed,{ended.status},", ended.out, re.M) and len(ended.out.splitlines()) > 3, ended
 
 
 def test_nothing_is_written_without_a_book(books: Folder) -> None:
-    damage(books)
+    books.below("high").damage(9)
     ended = books.tools(*LIST, "report", "2019-12-31", "--at", "p2.csv", "--html", "bad.html")
     assert ended.status != 0 and "nothing is written, since a book is left out" in ended.err, ended
     assert not (books.path / "bad.html").exists()
@@ -329,9 +317,7 @@ def test_nothing_is_written_without_a_book(books: Folder) -> None:
 
 
 def test_a_book_that_adds_up_to_something_else(books: Folder) -> None:
-    life = shlex.quote(str(books.program.path))
-    liar = books.write("liar", f'#!/bin/sh\n[ "$1" = value ] || exec {life} "$@"\n{life} "$@" | sed "/^row/s/[0-9]\\$/7/"\n')
-    liar.chmod(0o755)
+    liar = books.stand_in('[ "$1" = value ] || exec "$life" "$@"\n"$life" "$@" | sed "/^row/s/[0-9]\\$/7/"')
     ended = books.tools(*LIST, "report", "2019-12-31", "--at", "p2.csv", program=liar)
     assert ended.status == 2 and "status 2: the rows add up to" in ended.err, ended
 

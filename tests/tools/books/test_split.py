@@ -3,9 +3,6 @@ programs print something else for a new book; and what can't be divided is refus
 
 The comparisons of the tool aren't used here: the test sorts lines and adds up amounts itself, and reads commands one by one.
 """
-from __future__ import annotations
-
-import fcntl
 import os
 import re
 import shlex
@@ -144,7 +141,6 @@ def put() -> None:
 
 
 def killed_at(most: int) -> bool:
-    """Returns whether a child was killed at its step of this number."""
     child = os.fork()
     if child == 0:
         done = 0
@@ -171,7 +167,6 @@ def demand_whole(folder: str) -> None:
 
 @pytest.fixture
 def made(tmp_path: Path, monkeypatch: pytest.MonkeyPatch) -> None:
-    """A folder with the files from which new books are made."""
     monkeypatch.chdir(tmp_path)
     for folder in FOLDERS:
         Path(f"made-{folder}").mkdir()
@@ -215,19 +210,11 @@ def test_a_strangers_folder_stays() -> None:
 
 @pytest.fixture
 def main(folder: Folder) -> Folder:
-    """A folder with a drawn book in main, and a copy of its journal in old.life."""
     for name in ("basis.csv", "q.xml", "g.xml"):
         folder.below("main").take(name)
     folder.write("main/journal.life", file_of(lived(7, 60)))
     folder.write("old.life", file_of(lived(7, 60)))
     return folder
-
-
-def in_place_of_the_program(folder: Folder, text: str) -> Path:
-    """Returns a shell script that stands in for the program, which the script can call as $life."""
-    script = folder.write("stand-in", f'#!/bin/sh\nlife={shlex.quote(str(folder.program.path))}\n{text}')
-    script.chmod(0o755)
-    return script
 
 
 def demand_nothing_made(main: Folder) -> None:
@@ -236,10 +223,9 @@ def demand_nothing_made(main: Folder) -> None:
 
 
 def killed_in(main: Folder, phase: str) -> None:
-    """Kills a split while the program runs this command."""
     stays = main.path / "stays"
-    stand_in = in_place_of_the_program(main, f'[ "$1" != {phase} ] || {{ touch "{stays}"; while [ -e "{stays}" ]; do sleep 0.1; '
-                                       'done; }\nexec "$life" "$@"\n')
+    stand_in = main.stand_in(f'[ "$1" != {phase} ] || {{ touch "{stays}"; while [ -e "{stays}" ]; do sleep 0.1; done; }}\n'
+                             'exec "$life" "$@"')
     (main.path / "room").mkdir(exist_ok=True)
     env = {**os.environ, "TMPDIR": str(main.path / "room"), "LIFE_PROGRAM": str(stand_in)}
     words = [sys.executable, str(ROOT / "tools" / "life-tools"), "books", "split", "main/journal.life", *HALVES]
@@ -299,7 +285,7 @@ LIES = {
 @pytest.mark.parametrize("name", LIES)
 def test_a_program_that_says_something_else(main: Folder, name: str) -> None:
     where, does, says = LIES[name]
-    stand_in = in_place_of_the_program(main, f'case $PWD$1 in */{where}) {does} ;; *) exec "$life" "$@" ;; esac\n')
+    stand_in = main.stand_in(f'case $PWD$1 in */{where}) {does} ;; *) exec "$life" "$@" ;; esac')
     ended = main.tools("books", "split", "main/journal.life", *HALVES, program=stand_in)
     assert ended.status == 1 and not ended.out and "Traceback" not in ended.err, ended
     assert re.search(says, ended.err), ended
@@ -333,8 +319,7 @@ def test_refused(main: Folder, words: str, says: str) -> None:
 
 
 def test_a_book_in_use(main: Folder) -> None:
-    with open(main.path / "main" / "journal.life", "rb") as held:
-        fcntl.flock(held, fcntl.LOCK_EX)
+    with main.below("main").in_use():
         main.refused("books", "split", "main/journal.life", *HALVES, says="main/journal.life is in use by another run")
 
 
@@ -344,7 +329,5 @@ def test_a_book_without_a_table(main: Folder) -> None:
 
 
 def test_a_damaged_book(main: Folder) -> None:
-    data = bytearray(file_of(lived(7, 60)))
-    data[17 + 65 * 100] = 0
-    main.write("main/journal.life", bytes(data))
+    main.below("main").damage(100)
     main.refused("books", "split", "main/journal.life", *HALVES, says="bytes follow byte 6517", status=1)

@@ -1,10 +1,9 @@
 """Tests that each command of `life-tools` has a help text, refuses an unknown option, and names a package that is missing."""
-from __future__ import annotations
-
 import os
 import re
 import subprocess
 import sys
+import threading
 from pathlib import Path
 
 import pytest
@@ -75,3 +74,16 @@ def test_a_python_without_packages_begins_debians(folder: Folder) -> None:
     ran = subprocess.run([sys.executable, "-S", TOOLS, "position-on", "2020-01-01", "journal.life"], cwd=folder.path,
                          capture_output=True, text=True, check=False)
     assert (ran.returncode, ran.stdout, ran.stderr) == (0, "0\n", "")
+
+
+def test_no_tool_is_forked_beside_a_thread(tmp_path: Path) -> None:
+    """The tool might wait for that thread for ever."""
+    end = threading.Event()
+    beside = threading.Thread(target=end.wait, name="beside")
+    beside.start()
+    try:
+        with pytest.raises(AssertionError, match="a test left these threads .*: beside"):
+            run_tool(["--help"], tmp_path, {})
+    finally:
+        end.set()
+        beside.join()

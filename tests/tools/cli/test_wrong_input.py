@@ -3,8 +3,6 @@
 The first table has one fault of each kind, with its message. The second table has each place that takes a file, into which
 strange files are put.
 """
-from __future__ import annotations
-
 import shlex
 from random import Random
 
@@ -199,7 +197,6 @@ def test_a_fault(office: Folder, row: str) -> None:
 
 @pytest.fixture
 def places(office: Folder) -> Folder:
-    """The small office, with the files that other tools read."""
     office.write("map.csv", (EXAMPLES / "other-system-map.csv").read_text(encoding="utf-8"))
     office.write("other.csv", office.read("map.csv").splitlines()[0] + "\n")
     office.write("books.csv", "main,.,basis.csv\n")

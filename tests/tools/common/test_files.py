@@ -1,7 +1,5 @@
 """Tests what a tool writes: under a private name at first, never over a book's own files, and without a cell that is a
 formula."""
-from __future__ import annotations
-
 import csv
 import importlib
 import os

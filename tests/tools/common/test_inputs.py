@@ -1,6 +1,4 @@
 """Tests what a tool is given to read: a pipe or a device is refused at once, and unexpected bytes cause no traceback."""
-from __future__ import annotations
-
 import os
 
 import pytest

@@ -1,7 +1,5 @@
 """Tests a tool whose output can't be written, or that meets an unexpected error: it prints one line and ends with 2, without a
 traceback."""
-from __future__ import annotations
-
 import errno
 import fcntl
 import os

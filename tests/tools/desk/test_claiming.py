@@ -1,7 +1,5 @@
 """Tests files that are hard to claim: whatever happens to a file, its disk and its writer, each row is posted once or
 reported."""
-from __future__ import annotations
-
 import errno
 import os
 import shutil
@@ -25,7 +23,6 @@ ISSUE = "1,issue,{},2024-05-01,whole,40,0,1000.00,40.00\n"
 
 @pytest.fixture
 def desk(folder: Folder) -> Desk:
-    """A desk whose book has one policy."""
     desk = Desk(folder)
     desk.hand_in("first.csv", ISSUE.format(1))
     desk.day("--new", status=1)
@@ -77,7 +74,7 @@ def test_a_user_without_a_name_has_a_number(monkeypatch: pytest.MonkeyPatch) -> 
 
 def test_who_posts_the_rest_of_anothers_day_is_named(desk: Desk, monkeypatch: pytest.MonkeyPatch) -> None:
     """The log once named whoever had claimed the file."""
-    desk.folder.write("stand-in", "#!/bin/sh\ncat >/dev/null\nexit 8\n").chmod(0o755)
+    desk.folder.stand_in("cat >/dev/null\nexit 8")
     desk.hand_in("a.csv", ISSUE.format(2))
     for name in ("anna", "berta"):
         monkeypatch.setattr(claiming, "login", lambda name=name: name)
@@ -159,7 +156,7 @@ def test_what_was_claimed_is_on_the_disk_before_it_is_posted(desk: Desk, monkeyp
 
 def test_a_claimed_file_that_is_changed_stops_only_its_own_rows(desk: Desk) -> None:
     """The other files are posted, and the log lists what it can read."""
-    desk.folder.write("stand-in", "#!/bin/sh\ncat >/dev/null\nexit 8\n").chmod(0o755)
+    desk.folder.stand_in("cat >/dev/null\nexit 8")
     desk.hand_in("a.csv", ISSUE.format(2))
     desk.day("--life", "stand-in", status=1)
     claimed = desk.entry_folder(2) / "handed-in.csv"

@@ -1,7 +1,5 @@
 """Tests `life-tools day`: files are claimed, checked and posted as lanes of one run; what happened to each row is kept and
 reported."""
-from __future__ import annotations
-
 import fcntl
 import os
 import signal
@@ -26,7 +24,6 @@ SETTLE = "1,settle,7001,2024-05-27,300.00"
 
 @pytest.fixture
 def desk(folder: Folder) -> Desk:
-    """A desk whose book hasn't been begun, and which has no basis."""
     return Desk(folder)
 
 
@@ -366,7 +363,7 @@ def test_a_refused_row_is_reported_with_its_remedy(begun: Desk) -> None:
     ("kill -s SEGV $$", "was ended by signal 11; 0 rows were posted, 1 are left"),
 ])
 def test_what_a_bad_end_leaves_is_posted_by_the_next_day(begun: Desk, ends: str, says: str) -> None:
-    begun.folder.write("stand-in", f"#!/bin/sh\ncat >/dev/null\n{ends}\n").chmod(0o755)
+    begun.folder.stand_in(f"cat >/dev/null\n{ends}")
     begun.hand_in("a.csv", "1,settle,7001,2024-06-01,1.00\n")
     ended = begun.day("--life", "stand-in", status=1)
     assert f"run 2 {says}" in ended.err and ended.out.endswith("-a,0,0,0,1\n")
@@ -376,8 +373,8 @@ def test_what_a_bad_end_leaves_is_posted_by_the_next_day(begun: Desk, ends: str,
 
 def test_rows_that_find_the_book_full_are_kept_for_another_one(begun: Desk) -> None:
     """A stand-in prints what the program would answer, so no book of 4,000,000 postings is needed."""
-    begun.folder.write("stand-in", "#!/bin/sh\ncat >/dev/null\necho 1,settle,7001,refused,full,4000000\n"
-                       "echo 1,lapse,7001,refused,wrongstatus,claimed\n").chmod(0o755)
+    begun.folder.stand_in("cat >/dev/null\necho 1,settle,7001,refused,full,4000000\n"
+                          "echo 1,lapse,7001,refused,wrongstatus,claimed")
     begun.hand_in("a.csv", '1,"settle",7001,2024-06-01,1.00\r\n1,lapse,7001,2024-06-01\r\n')
     ended = begun.day("--life", "stand-in", status=1)
     assert "refused, full,4000000: " in ended.err and ended.out.endswith("-a,0,2,0,0\n")
@@ -395,9 +392,8 @@ def test_a_program_that_cannot_be_run_leaves_the_file(begun: Desk) -> None:
 # --- a damaged book, and one in use ---
 
 def test_a_damaged_book_is_never_written_to(begun: Desk) -> None:
-    data = bytearray(begun.folder.journal.read_bytes())
-    data[17 + 65] = 0
-    begun.folder.journal.write_bytes(data)
+    begun.folder.damage(1)
+    data = begun.folder.journal.read_bytes()
     begun.hand_in("a.csv", "1,settle,7001,2024-06-01,1.00\n")
     ended = begun.day(status=1)
     assert "journal.life is damaged, so nothing is posted" in ended.err and begun.inbox == ["a.csv"]
@@ -406,9 +402,8 @@ def test_a_damaged_book_is_never_written_to(begun: Desk) -> None:
 
 def test_the_last_record_that_is_gone_is_noticed_by_the_log(begun: Desk) -> None:
     """A damaged last commit byte looks like what a crash leaves, but the log recorded more postings."""
-    data = bytearray(begun.folder.journal.read_bytes())
-    data[17 + 2 * 65] = 0
-    begun.folder.journal.write_bytes(data)
+    begun.folder.damage(2)
+    data = begun.folder.journal.read_bytes()
     begun.hand_in("a.csv", "1,settle,7001,2024-06-01,1.00\n")
     assert "has 2 commands, and had 3 by ./log" in begun.day(status=1).err
     assert begun.folder.journal.read_bytes() == data
@@ -416,8 +411,7 @@ def test_the_last_record_that_is_gone_is_noticed_by_the_log(begun: Desk) -> None
 
 def test_a_book_in_use_is_waited_for_and_given_up(begun: Desk) -> None:
     begun.hand_in("a.csv", "1,settle,7001,2024-06-01,1.00\n")
-    with open(begun.folder.journal, "rb") as journal:
-        fcntl.flock(journal, fcntl.LOCK_EX)
+    with begun.folder.in_use():
         ended = begun.day("--wait", "1", status=2)
     assert "journal.life is in use by process" in ended.err and "nothing was posted" in ended.err
     assert begun.count() == 3
@@ -426,7 +420,6 @@ def test_a_book_in_use_is_waited_for_and_given_up(begun: Desk) -> None:
 
 
 def says(ran: subprocess.Popen[str], wanted: str) -> None:
-    """Reads its standard error up to a line that contains this text."""
     assert ran.stderr
     lines = iter(ran.stderr.readline, "")
     assert any(wanted in line for line in lines)
@@ -435,8 +428,7 @@ def says(ran: subprocess.Popen[str], wanted: str) -> None:
 @pytest.mark.parametrize("number", [signal.SIGTERM, signal.SIGINT, signal.SIGHUP])
 def test_a_signal_ends_a_waiting_day_at_once(begun: Desk, number: signal.Signals) -> None:
     begun.hand_in("a.csv", "1,settle,7001,2024-06-01,1.00\n")
-    with open(begun.folder.journal, "rb") as journal:
-        fcntl.flock(journal, fcntl.LOCK_EX)
+    with begun.folder.in_use():
         with started(begun, "--wait", "20") as ran:
             says(ran, "day: waiting: ./journal.life is in use by process")
             sent = time.monotonic()
@@ -451,8 +443,7 @@ def test_a_signal_ends_a_waiting_day_at_once(begun: Desk, number: signal.Signals
 def test_a_signal_that_is_ignored_stays_so(begun: Desk) -> None:
     """Such as under `nohup`: a closed terminal doesn't end the work."""
     begun.hand_in("a.csv", "1,settle,7001,2024-06-01,1.00\n")
-    with open(begun.folder.journal, "rb") as journal:
-        fcntl.flock(journal, fcntl.LOCK_EX)
+    with begun.folder.in_use() as journal:
         with started(begun, "--wait", "20", ignored=signal.SIGHUP) as ran:
             says(ran, "day: waiting: ./journal.life is in use by process")
             ran.send_signal(signal.SIGHUP)

@@ -1,6 +1,4 @@
 """Tests a disk that fails while `day` posts: what the log records as accepted is on the disk."""
-from __future__ import annotations
-
 import os
 import re
 import signal
@@ -39,7 +37,6 @@ def medium(tmp_path: Path) -> Iterator[Medium]:
 
 
 def stopped(log: Path, day: subprocess.Popen[str]) -> int:
-    """Waits until the program is stopped, and returns its process id."""
     while day.poll() is None:
         found = re.search(r"^(\d+) .*stopped by SIGSTOP", log.read_text() if log.exists() else "", re.M)
         if found:

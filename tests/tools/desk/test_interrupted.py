@@ -1,6 +1,4 @@
 """Tests that after an interruption the next `day` goes on: it reports what was posted, and posts the rest."""
-from __future__ import annotations
-
 import contextlib
 import os
 import re

@@ -1,6 +1,4 @@
 """Kills `day`: each row that was handed in is posted once, or held, or refused; and no file is lost."""
-from __future__ import annotations
-
 import hashlib
 import os
 import random
@@ -24,7 +22,6 @@ JUDGED_EACH = 25
 
 @pytest.fixture
 def memory(folder: Folder) -> Iterator[Path]:
-    """A folder on another file system than the book's."""
     with tempfile.TemporaryDirectory(dir="/dev/shm") as place:
         if os.stat(place).st_dev == folder.path.stat().st_dev:
             lacks("the folder of the test lies in memory, too")

@@ -1,7 +1,5 @@
 """Tests what `reckoned` finds of each row of a run, from what the run printed and from the journal; the runs are played by the
 rules."""
-from __future__ import annotations
-
 from dataclasses import dataclass, field
 
 import pytest
@@ -10,8 +8,8 @@ from hypothesis import strategies as st
 
 from life_tools.desk.reckoning import NOT_PRINTED, NotOfTheRun, Reckoned, reckoned
 from life_tools.rules.commands import Command
-from life_tools.rules.policies import Book, Refusal
 from life_tools.scripts.lines import Line, lanes_of, lines_in
+from tests.rules.policies import Book, Refusal
 
 POLICIES = (1, 2, 3)
 # the rows that a script may have for each policy, each at most once

@@ -1,6 +1,4 @@
 """Fixtures for a clone whose program counts as proved, and for the programs as `life install` installs them."""
-from __future__ import annotations
-
 import os
 import shutil
 import subprocess
@@ -24,7 +22,6 @@ def ran(words: Sequence[str | Path], folder: Path, given: str = "", env: dict[st
 
 
 def note_proof(clone: Path) -> None:
-    """Records that the clone's program is proved, with its sources as they are."""
     subprocess.run(["sh", "-c", NOTE, clone], check=True)
 
 
@@ -50,7 +47,6 @@ def clone(proved_clone: Path, tmp_path: Path) -> Path:
 
 @pytest.fixture(scope="session")
 def unproved_clone(proved_clone: Path, tmp_path_factory: pytest.TempPathFactory) -> Path:
-    """A clone in which nothing is proved; tests leave it as it is."""
     clone = tmp_path_factory.mktemp("unproved") / "clone"
     shutil.copytree(proved_clone, clone, symlinks=True, ignore=shutil.ignore_patterns("out"))
     return clone
@@ -58,7 +54,6 @@ def unproved_clone(proved_clone: Path, tmp_path_factory: pytest.TempPathFactory)
 
 @pytest.fixture(scope="session")
 def installed(proved_clone: Path, tmp_path_factory: pytest.TempPathFactory) -> Path:
-    """The folder in which `life`, `life-wait` and `life-tools` are installed."""
     folder = tmp_path_factory.mktemp("home") / "bin"
     done = ran(["sh", proved_clone / "life", "install", folder], proved_clone)
     assert done.status == 0, done
@@ -75,7 +70,6 @@ class Called:
 
 @pytest.fixture(params=["clone", "installed"])
 def life(request: pytest.FixtureRequest, proved_clone: Path, installed: Path) -> Called:
-    """The clone's launcher, and the installed program."""
     if request.param == "clone":
         return Called(("sh", proved_clone / "life"), "sh life")
     return Called((installed / "life",), "life")

@@ -1,6 +1,4 @@
 """Tests the logic that the pages claim: it must be the one by which the program was proved, as recorded at the proof."""
-from __future__ import annotations
-
 from pathlib import Path
 
 import pytest

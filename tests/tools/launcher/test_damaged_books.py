@@ -1,7 +1,5 @@
 """Tests a damaged commit byte, which ends the journal for the program. Neither the clone's launcher nor the installed `life`
 lets the program post after it, unless the caller accepts the loss; commands that only read are run with a warning."""
-from __future__ import annotations
-
 import json
 import os
 import shutil
@@ -12,22 +10,15 @@ import pytest
 from tests.support.folders import EXAMPLES, Folder
 from tests.tools.launcher.conftest import Called, ran
 
-# docs/reference/journal.md: 17 bytes come before the first record, and a record has 65 bytes; the small office has 27 records
-FIRST, RECORD, COMMANDS = 17, 65, 27
+# the records of the small office
+COMMANDS = 27
 ISSUE = "1,issue,9001,2024-03-01,endowment,30,20,1000.00,40.00\n"
-
-
-def damage(journal: Path, record: int) -> None:
-    """Sets the commit byte of a record, counted from 0, to 0."""
-    data = bytearray(journal.read_bytes())
-    data[FIRST + RECORD * record] = 0
-    journal.write_bytes(data)
 
 
 @pytest.fixture
 def damaged(small_office: Folder) -> Folder:
     """The small office with a damaged commit byte in record 3: the 23 records after it can't be read."""
-    damage(small_office.journal, 3)
+    small_office.damage(3)
     return small_office
 
 
@@ -60,7 +51,7 @@ def test_what_reads_is_run_and_warned_of(damaged: Folder, life: Called) -> None:
 def test_a_count_that_a_checkpoint_or_a_log_noted(small_office: Folder, life: Called) -> None:
     """Only the last commit byte is damaged. The length is that after a crash, so only a recorded count of 27 shows the damage."""
     assert small_office.life("checkpoint").out == f"checkpoint,{COMMANDS}\n"
-    damage(small_office.journal, COMMANDS - 1)
+    small_office.damage(COMMANDS - 1)
     done = ran([*life.words, "run"], small_office.path, ISSUE)
     assert done.status == 67 and f"; journal.life has {COMMANDS - 1} commands, and had {COMMANDS} by checkpoint.life)" in done.err
     # a new checkpoint would replace the one that shows the loss

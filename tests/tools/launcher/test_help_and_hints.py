@@ -1,8 +1,5 @@
 """Tests that `life` explains itself in the same words where it is installed and in a clone: help for every command, and hints
 on a terminal."""
-from __future__ import annotations
-
-import fcntl
 import os
 import re
 import shutil
@@ -53,8 +50,7 @@ def test_help_of_what_is_no_command(life: Called, tmp_path: Path) -> None:
 
 
 def test_who_has_the_journal(small_office: Folder, life: Called) -> None:
-    with open(small_office.journal, "rb") as file:
-        fcntl.flock(file, fcntl.LOCK_EX)
+    with small_office.in_use():
         status, said = on_terminal([*life.words, "state"], small_office.path)
     assert status == 8 and f"journal.life is in use by process {os.getpid()}, " in said, said
 

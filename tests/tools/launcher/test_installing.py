@@ -1,6 +1,4 @@
 """Tests that an installation is complete or isn't made, and runs without the clone."""
-from __future__ import annotations
-
 import os
 import subprocess
 from pathlib import Path
@@ -19,7 +17,6 @@ INSTALLED = ["life", "life-program", "life-tools", "life-wait"]
 
 @pytest.fixture
 def bin_(clone: Path, tmp_path: Path) -> Path:
-    """The folder in which the programs of the test's own clone are installed."""
     done = ran(["sh", clone / "life", "install", tmp_path / "home" / "bin"], tmp_path)
     assert done.status == 0, done
     return tmp_path / "home" / "bin"

@@ -1,7 +1,5 @@
 """Tests previews: one is built once, runs on copies, and is never taken for the proved program; a preview that is stopped
 leaves nothing half done. Also tests what the launcher says on a terminal while a long script runs."""
-from __future__ import annotations
-
 import os
 import re
 import shutil

@@ -1,7 +1,5 @@
 """Tests that only the proved program, with the sources from which it was proved, is run, installed or packed. Both are
 recognized by their SHA-256, whatever the times of their files are."""
-from __future__ import annotations
-
 import os
 import re
 import shutil

@@ -1,7 +1,5 @@
 """Tests `sh life prove`, `sh life test` and CI with a stand-in for the kit: what is current after them, what their counts say,
 and what a signal leaves."""
-from __future__ import annotations
-
 import os
 import shutil
 from pathlib import Path

@@ -1,7 +1,5 @@
 """Tests waiting for a book: whoever waits gets it, alone or among many, and delays nobody else. A folder without a book is
 reported."""
-from __future__ import annotations
-
 import fcntl
 import os
 import subprocess
@@ -27,7 +25,6 @@ def launcher(proved_clone: Path) -> list[str]:
 
 @pytest.fixture
 def book(folder: Folder) -> Folder:
-    """The book of the first example, which has four commands."""
     folder.post(FIRST_ISSUES)
     return folder
 

@@ -1,6 +1,4 @@
 """Tests wrong arguments of the launcher, which do nothing; and that no command of the program is run if nothing is proved."""
-from __future__ import annotations
-
 import os
 import shutil
 import subprocess

@@ -1,7 +1,5 @@
 """Tests the tools that judge what the program printed, valuations, transcripts and projections: they accept what it printed,
 and find each change of it."""
-from __future__ import annotations
-
 import re
 
 import pytest
@@ -31,7 +29,6 @@ def refuses_in(folder: Folder, words: list[str], text: str, says: str) -> None:
 
 @pytest.fixture
 def office(small_office: Folder) -> Folder:
-    """The small office, and valuations of it by each measure."""
     for name, words in MEASURES.items():
         small_office.write(name, small_office.life("value", "2024-03-12", *words).out)
     return small_office
@@ -83,7 +80,6 @@ def test_a_measure_that_isnt_one(office: Folder) -> None:
 
 @pytest.fixture
 def sample(office: Folder) -> str:
-    """Two rows of a valuation, after its first line."""
     lines = office.read("terminal").splitlines(keepends=True)
     return "".join([lines[0], *(line for number in (15, 11) for line in lines if line.startswith(f"row,{number},"))])
 

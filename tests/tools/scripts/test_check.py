@@ -1,8 +1,4 @@
 """Tests scripts before they are sent: they are checked, and run on a copy; nothing is posted."""
-from __future__ import annotations
-
-import fcntl
-
 import pytest
 
 from tests.support.folders import Folder
@@ -127,6 +123,16 @@ def test_a_dry_run_prints_what_the_run_prints_and_posts_nothing(office: Folder) 
 
 
 def test_a_dry_run_beside_another_run(office: Folder) -> None:
-    with open(office.journal, "rb") as held:
-        fcntl.flock(held, fcntl.LOCK_EX)
+    with office.in_use():
         office.refused("dry-run", "one-order.csv", says="in use by another run")
+
+
+def test_check_names_doubtful_issues(table_q: Folder) -> None:
+    """For an amount of 1000.00 the net premium by table Q is 381.68, as in the test of `day`'s limits."""
+    rows = ["1,issue,1,2024-05-01,endowment,0,3,1000.00,400.00", "1,issue,2,1901-05-01,endowment,0,3,1000.00,40.00"]
+    table_q.write("a.csv", "\n".join(rows))
+    printed = table_q.printed("check", "a.csv", "--today", "2024-06-03", status=1)
+    assert printed == ("line 2 of a.csv: 1,issue,2,1901-05-01,endowment,0,3,1000.00,40.00\n"
+                       "  the day is before that of the lane's posting above, which is 2024-05-01\n"
+                       "  its day is 44959 days before today, 2024-06-03, and 400 are allowed\n"
+                       "  its premium 40.00 lies outside 0.5 to 4 times the net premium 381.68 of basis.csv\n")

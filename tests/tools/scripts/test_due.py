@@ -1,7 +1,5 @@
 """Tests `due`: for a policy of each kind the list is worked out by hand; for drawn books it has exactly what the program
 accepts."""
-from __future__ import annotations
-
 import csv
 import io
 import shutil
@@ -10,7 +8,8 @@ import pytest
 
 from life_tools.journal.columns import columns_at
 from life_tools.journal.file import file_of
-from life_tools.rules.policies import Book, Policy
+from tests.rules.policies import Book, Policy
+from tests.support.drawn_scripts import for_tools
 from tests.support.folders import Folder
 from tests.support.lived_books import lived
 
@@ -84,7 +83,6 @@ REFUSED = {
 
 @pytest.fixture
 def office(folder: Folder) -> Folder:
-    """A book with a policy of each kind."""
     folder.post(SCRIPT)
     return folder
 
@@ -128,7 +126,7 @@ class Lived:
         self.folder, self.book = folder, Book(commands)
         folder.write("journal.life", file_of(commands))
         found = columns_at(str(folder.journal)).policies
-        assert [found.policy(place) for place in range(len(found))] == list(self.book.policies.values())
+        assert [found.policy(place) for place in range(len(found))] == list(map(for_tools, self.book.policies.values()))
 
     def accepted(self, script: list[str]) -> list[str]:
         copy = self.folder.below("copy")

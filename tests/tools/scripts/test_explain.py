@@ -1,7 +1,5 @@
 """Tests `explain` for a refused line, a script, a basis or a table: it gives the place, what was found there, and what is
 wanted."""
-from __future__ import annotations
-
 import re
 
 import pytest
@@ -40,7 +38,6 @@ REFUSED = {
 
 
 def explained(folder: Folder) -> str:
-    """Returns the explanation of the program's refusal of the basis."""
     answer = folder.life("value", "2021-01-01")
     assert answer.status == 4, answer
     return folder.printed("explain", answer.out.strip())

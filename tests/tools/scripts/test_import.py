@@ -1,7 +1,5 @@
 """Tests `import`: a book of 5,000 drawn policies of another system is compared with what was drawn and with exact values; each
 way of writing is worked out by hand; and rows and maps that can't be used are refused."""
-from __future__ import annotations
-
 import argparse
 import csv
 import io

@@ -3,8 +3,7 @@
 A model of an office runs a script up to some turn, and leaves what a kill leaves: the script, the journal, and perhaps a prefix
 of the transcript. The program itself is killed at some moment, too.
 """
-from __future__ import annotations
-
+import datetime
 import signal
 import subprocess
 import time
@@ -16,11 +15,12 @@ from hypothesis import given, settings
 from hypothesis import strategies as st
 
 from life_tools.common.formats import Wrong
+from life_tools.journal.file import file_of
 from life_tools.rules.commands import Command, words_of
-from life_tools.rules.policies import Book, Policy, Refusal, Upgraded
 from life_tools.scripts.cut_transcripts import read_prefix
 from life_tools.scripts.lines import Line, lanes_of, lines_in
 from life_tools.scripts.remainder import History, NoRun, demand_records, rest_of
+from tests.rules.policies import Book, Policy, Refusal, Upgraded
 from tests.strategies import scripts
 from tests.support.folders import Folder
 
@@ -235,3 +235,24 @@ def test_the_rest_of_a_long_killed_run(folder: Folder) -> None:
     wanted = [row for place, row in enumerate(rows) if place > last.get(row.split(",", 1)[0], -1)]
     assert wanted and len(posted) > policies // 3
     assert folder.printed("rest", "script", "journal.life", "0").splitlines() == wanted
+
+
+POLICIES = 100_000
+# limit for the time of `rest` compared with reading the book in the same test; by objects it takes fifteen times as long
+MOST_TIMES = 6
+
+
+@pytest.mark.alone
+def test_the_rest_takes_little_longer_than_to_read_the_book(folder: Folder) -> None:
+    day = datetime.date(2020, 1, 1)
+    issues = [Command("issue", number, day, "endowment", 30, 20, 100000, 4000) for number in range(1, POLICIES + 1)]
+    folder.write("journal.life", file_of([*issues, *(Command("premium", it.number, day, amount=4000) for it in issues)]))
+    last = "".join(f"1,premium,{number},2020-01-01,40.00\n" for number in range(POLICIES - 999, POLICIES + 1))
+    more = "1,premium,1,2030-01-01,40.00\n"
+    folder.write("script.csv", last + more)
+    begun = time.monotonic()
+    assert folder.printed("read", "--verify", "journal.life").endswith(f"count,{2 * POLICIES}\n")
+    reading = time.monotonic() - begun
+    begun = time.monotonic()
+    assert folder.printed("rest", "script.csv", "journal.life", str(2 * POLICIES - 1000)) == more
+    assert time.monotonic() - begun < MOST_TIMES * reading + 0.5

@@ -1,7 +1,5 @@
 """Tests tables in forms that the program doesn't accept, made from the shipped ones in the layouts of known tables. What
 `table convert` makes of them is accepted, and has the rates that another XML parser reads; no rate is invented."""
-from __future__ import annotations
-
 import re
 import xml.etree.ElementTree as Tree
 from dataclasses import dataclass

@@ -1,8 +1,6 @@
 """Compares the reader of what `value` and `state` print that works on columns with the one that reads line by line, on drawn
 texts, most of them with one byte changed. Whatever the first reader accepts, the second accepts; right texts are accepted by
 both."""
-from __future__ import annotations
-
 from random import Random
 from typing import Callable, TypeVar
 
@@ -11,10 +9,10 @@ import pytest
 from life_tools.common.formats import PLANS, STATUSES, Wrong, money
 from life_tools.journal.checkpoints import checkpoint_of
 from life_tools.journal.day_columns import texts_at
-from life_tools.rules.policies import Book, balances_of
 from life_tools.valuations import printed_columns
 from life_tools.valuations.printed_books import state_in, valuation_in
 from life_tools.valuations.printed_columns import state_of, valuation_of
+from tests.rules.policies import Book, balances_of
 from tests.support.lived_books import lived
 
 WORDS = ("nobasis", "belowtable", "pasttable", "ratehigh")
@@ -23,7 +21,6 @@ BLOCKS = range(4)
 
 
 def value_text(draw: Random, book: Book) -> str:
-    """Returns a text that `value` might print for a book, with drawn bounds."""
     measure = draw.choice(("", ",mean", ",deficiency"))
     lines, sums, words = list[str](), [0] * (4 if "def" in measure else 2), 0
     for policy in book.policies.values():
