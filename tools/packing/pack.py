@@ -8,17 +8,17 @@ from __future__ import annotations
 import os
 import sys
 
-HERE = os.path.dirname(os.path.abspath(__file__))
-ROOT = os.path.dirname(os.path.dirname(HERE))
-sys.dont_write_bytecode = True
-sys.path.insert(0, os.path.dirname(HERE))
+if __name__ == "__main__":
+    sys.dont_write_bytecode = True
+    sys.path.insert(0, os.path.dirname(os.path.dirname(os.path.abspath(__file__))))
 
-from life_tools.common.formats import Wrong, remark  # noqa: E402
-from packing.changelog import newest_of  # noqa: E402
-from packing.debian import make_both  # noqa: E402
-from packing.sources import sum_of, sum_of_sources  # noqa: E402
-from packing.tree import NAME, Release, proved_of, write  # noqa: E402
+from life_tools.common.formats import Wrong, remark
+from packing.changelog import newest_of
+from packing.debian import make_both
+from packing.sources import sum_of, sum_of_sources
+from packing.tree import NAME, Release, proved_of, write
 
+ROOT = os.path.dirname(os.path.dirname(os.path.dirname(os.path.abspath(__file__))))
 GATE = os.path.join(ROOT, "out", "gate")
 
 

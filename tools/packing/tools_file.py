@@ -10,15 +10,14 @@ import os
 import sys
 import zipfile
 
-HERE = os.path.dirname(os.path.abspath(__file__))
-ROOT = os.path.dirname(os.path.dirname(HERE))
 if __name__ == "__main__":
     sys.dont_write_bytecode = True
-    sys.path.insert(0, os.path.dirname(HERE))
+    sys.path.insert(0, os.path.dirname(os.path.dirname(os.path.abspath(__file__))))
 
-from life_tools.cli.entry import ENTRIES  # noqa: E402
-from packing.changelog import newest_of  # noqa: E402
+from life_tools.cli.entry import ENTRIES
+from packing.changelog import newest_of
 
+ROOT = os.path.dirname(os.path.dirname(os.path.dirname(os.path.abspath(__file__))))
 FIRST_LINE = b"#!/usr/bin/env python3\n"
 MAIN = "import sys\n\nfrom life_tools.cli.entry import main\n\nsys.exit(main())\n"
 BUILT = "life_tools/built.json"

@@ -16,11 +16,12 @@ import sys
 from collections.abc import Iterable, Iterator
 from pathlib import Path
 
-sys.path.insert(0, str(Path(__file__).resolve().parents[2]))
+if (root := str(Path(__file__).resolve().parents[2])) not in sys.path:
+    sys.path.insert(0, root)
 
-from tests.language import counts, specs, statements  # noqa: E402 # of the repository, which is put on the path above
-from tests.language.promise import Public, all_public  # noqa: E402 # likewise
-from tests.language.source import CRATES, Clause, Function  # noqa: E402 # likewise
+from tests.language import counts, specs, statements
+from tests.language.promise import Public, all_public
+from tests.language.source import CRATES, Clause, Function
 
 STYLE = """
 :root { color-scheme: light dark; }

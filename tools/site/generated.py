@@ -63,7 +63,7 @@ def refusals() -> str:
 
 def layers() -> str:
     """Returns the crates under the headings of crates.txt, each with the first sentences of its own description."""
-    from clause_pages import head_of_crate  # type: ignore[import]
+    from clause_pages import head_of_crate
     parts = []
     for line in (TOP / "crates.txt").read_text(encoding="utf-8").splitlines():
         heading = re.match(r"# (\d+\. .*)", line)

@@ -42,5 +42,5 @@ def on_post_build(config: Any) -> None:
         shutil.copyfile(KATEX / name, site / "katex" / placed)
     shutil.copytree(KATEX / "fonts", site / "katex" / "fonts")
     sys.path.insert(0, str(TOP / "tools" / "site"))
-    from clause_pages import write_clauses  # type: ignore[import]
+    from clause_pages import write_clauses
     write_clauses(site / "clauses")

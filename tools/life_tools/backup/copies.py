@@ -115,12 +115,12 @@ def append(copy: BinaryIO, journal: BinaryIO, start: int, end: int) -> None:
 
 
 def newest_day(journal: BinaryIO, before: Seal | None, safe: Safe, path: str) -> datetime.date | None:
-    """Returns the latest day of the copied postings, or None if there are none."""
+    """Returns the latest day of the copied postings, or None if none of them has a day."""
     days = [before.day if before else None]
     for start in range(before.position if before else 0, safe.count, RECORDS_AT_ONCE):
         end = min(start + RECORDS_AT_ONCE, safe.count)
         part = EMPTY[:FIRST_GATE] + b"".join(pieces(journal, gate_of(start), gate_of(end)))
-        days.append(newest_of(Columns(part, end - start).days(), path))
+        days.append(newest_of(Columns(part, end - start).dated(), path))
     return max((day for day in days if day), default=None)
 
 

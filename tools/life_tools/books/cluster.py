@@ -152,9 +152,9 @@ class Cluster:
         try:
             with at_most(SECONDS_TO_CONNECT, "it doesn't close"):
                 self.client.close(timeout=2)
-        except Exception as error:  # noqa: B902
-            # the connection may be gone already
-            del error
+        except Exception:
+            # Dask raises many kinds if the connection is gone already
+            pass
 
     def run(self, makes: list[Make], settle: Settle, tell: Tell) -> list[Outcome]:
         """Runs the tasks and returns the outcome of each.
@@ -204,7 +204,7 @@ class Cluster:
         try:
             outcome: Outcome = future.result(timeout=SECONDS_TO_CONNECT)
             return outcome
-        except Exception as error:  # noqa: B902
+        except Exception as error:
             # Dask gives many kinds of reasons for giving a task up
             why = f"the cluster gave it up: {type(error).__name__} {error}".replace("\n", " ")
             return Outcome(task.name, NOT_DONE, why[:MOST_LETTERS])

@@ -14,7 +14,8 @@ from life_tools.common.arrays import Array, np
 from life_tools.journal.columns import Columns
 from life_tools.journal.day_columns import anniversaries, day_at, number_at
 from life_tools.common.formats import LAST_DAY, MOST_COMMANDS, Wrong, bytes_of, number_of, rows_in
-from life_tools.journal.policy_columns import INFORCE, MADE_PAIDUP, TERM, Policies
+from life_tools.journal.policy_columns import Policies, is_insured
+from life_tools.rules.tables import INFORCE, TERM
 
 YEAR = 365
 # more days than from any present day to the end of any policy
@@ -74,9 +75,9 @@ def until(day: int | None) -> str:
 
 def needed_by(policies: Policies, today: int) -> Needed:
     """Returns what policies need, with each command on its day, or today if its day has passed."""
-    is_insured = (policies.status == INFORCE) | (policies.status == MADE_PAIDUP)
-    at_end = np.where(is_insured, np.where(policies.plan == TERM, 1, 2), 0) + (policies.outstanding > 0)
-    by_day = counted(np.where(is_insured, policies.end, today), today, at_end)
+    insured = is_insured(policies)
+    at_end = np.where(insured, np.where(policies.plan == TERM, 1, 2), 0) + (policies.outstanding > 0)
+    by_day = counted(np.where(insured, policies.end, today), today, at_end)
     paying = np.flatnonzero((policies.status == INFORCE) & (policies.paid < policies.payments))
     issued, paid, payments = policies.issued[paying], policies.paid[paying], policies.payments[paying]
     premiums = int((payments - paid).sum())

@@ -5,12 +5,10 @@ import os
 import re
 from dataclasses import dataclass
 
-from life_tools.common.formats import MOST_COMMANDS, Wrong, bytes_of, demand, number_of, rows_in
+from life_tools.common.formats import ALL_BOOKS, MOST_COMMANDS, Wrong, bytes_of, demand, number_of, rows_in
 from life_tools.tables.basis import NAME
 
 BOOK_NAME = re.compile("[A-Za-z0-9][A-Za-z0-9._-]{0,63}")
-# the name of the row with the totals
-ALL = "all"
 
 
 @dataclass(frozen=True)
@@ -29,8 +27,8 @@ class ListedBook:
 def listed_book(fields: tuple[str, ...], beside: str) -> ListedBook:
     demand(len(fields) == 3, "it has a name, a folder and a basis file")
     name, folder, basis = fields
-    is_name = BOOK_NAME.fullmatch(name) and name != ALL
-    demand(is_name, f"{name or 'nothing'} is no name of a book: up to 64 letters, digits, . _ or -, and not {ALL}")
+    is_name = BOOK_NAME.fullmatch(name) and name != ALL_BOOKS
+    demand(is_name, f"{name or 'nothing'} is no name of a book: up to 64 letters, digits, . _ or -, and not {ALL_BOOKS}")
     demand(folder, "its folder is empty")
     demand(NAME.fullmatch(basis), f"{basis or 'nothing'} is no name of a basis file")
     return ListedBook(name, os.path.realpath(os.path.join(beside, folder)), basis)

@@ -8,9 +8,9 @@ import os
 import shutil
 from typing import Mapping, Sequence
 
-from life_tools.books.lists import ALL, BOOK_NAME
+from life_tools.books.lists import BOOK_NAME
 from life_tools.journal.copied_folder import JOURNAL
-from life_tools.common.formats import Wrong, demand
+from life_tools.common.formats import ALL_BOOKS, Wrong, demand
 from life_tools.journal.seals import sum_of
 
 NEW = ".new"
@@ -26,8 +26,8 @@ def demand_new_folders(folders: Sequence[str], files: Sequence[str]) -> None:
     left."""
     names = [name_of(folder) for folder in folders]
     for folder, name in zip(folders, names):
-        is_name = BOOK_NAME.fullmatch(name) and name != ALL
-        demand(is_name, f"{name} is no name of a book: up to 64 letters, digits, . _ or -, and not {ALL}")
+        is_name = BOOK_NAME.fullmatch(name) and name != ALL_BOOKS
+        demand(is_name, f"{name} is no name of a book: up to 64 letters, digits, . _ or -, and not {ALL_BOOKS}")
         demand(not os.path.lexists(folder), f"{folder} is there already: where a killed run left it, remove it")
         demand(os.path.isdir(os.path.dirname(os.path.abspath(folder))), f"there is no folder for {folder}")
         demand_left(folder + NEW, files)

@@ -7,8 +7,9 @@ import shutil
 import socket
 import subprocess
 import tempfile
+import threading
 import zlib
-from concurrent.futures import ThreadPoolExecutor, wait
+from concurrent.futures import ThreadPoolExecutor
 from dataclasses import dataclass, field, replace
 from typing import IO, Any, Iterator
 
@@ -240,8 +241,14 @@ def sums_of(folder: str, count: int) -> Iterator[tuple[str, str]]:
         yield name, prefix_sum(path, count) if name == JOURNAL else sum_of(bytes_of(path))
 
 
-# one look at a time, in parallel to the runs of the program
-LOOKING = ThreadPoolExecutor(1)
+# One look at a time, in parallel to the runs of the program. Each run has a thread of its own for its look: the thread of a pool
+# of this module would be missing from a process that is forked later, which would wait for its look for ever.
+ONE_LOOK = threading.Lock()
+
+
+def look_alone(task: Task, folder: str) -> Look:
+    with ONE_LOOK:
+        return look_at(task, folder)
 
 
 def own_in(task: Task, folder: str) -> Outcome:
@@ -260,11 +267,9 @@ def run_in(task: Task, folder: str, file: IO[bytes]) -> Outcome:
     if task.words[0] in OWN:
         return own_in(task, folder)
     program = program_of(task)
-    looking = LOOKING.submit(look_at, task, folder)
-    try:
+    with ThreadPoolExecutor(1) as pool:
+        looking = pool.submit(look_alone, task, folder)
         status, said = printed_by(program, words_of(task), folder, file)
-    finally:
-        wait([looking])
     if status != 0:
         return Outcome(task.name, status, last_line(file) or said.rpartition("\n")[2])
     text, look = text_in(task.words[0], file), looking.result()

@@ -12,14 +12,14 @@ import os
 from dataclasses import dataclass
 from typing import Any, Callable, Iterator, Sequence
 
+from life_tools.reports.due_items import Items
+from life_tools.reports.moved_books import Books, Moment, moved_in
 from life_tools.reports.movement import Cash, Moved
 from life_tools.valuations.class_bases import Bases
 from life_tools.journal.columns import columns_at
 from life_tools.journal.copied_folder import JOURNAL
 from life_tools.journal.day_columns import number_at
 from life_tools.audit.drawn_samples import drawable_of
-from life_tools.cli.due import Items
-from life_tools.cli.movement import Books, Moment, moved_in
 from life_tools.valuations.joined_rows import read_both
 from life_tools.audit.flags import flags_of
 from life_tools.common.formats import Wrong, day_in, demand, opened

@@ -15,7 +15,7 @@ from collections import Counter
 from operator import itemgetter
 from typing import Iterator, Sequence
 
-from life_tools.books.lists import ALL, ListedBook, books_at, positions_at
+from life_tools.books.lists import ListedBook, books_at, positions_at
 from life_tools.books.runs import OWN, Outcome, Parts, named
 from life_tools.books.totals import total_of
 from life_tools.books.work import Asked, processors, work
@@ -25,7 +25,7 @@ from life_tools.cli.books_counts import run_headroom, run_position_on
 from life_tools.cli.headroom import add_arguments, wanted_of
 from life_tools.common.cells import write_csv_file
 from life_tools.common.files import written_whole
-from life_tools.common.formats import MOST_WORKERS, MOST_YEARS, Wrong, day_in, demand, number_of, remark
+from life_tools.common.formats import ALL_BOOKS, MOST_WORKERS, MOST_YEARS, Wrong, day_in, demand, number_of, remark
 from life_tools.journal.record_columns import columns_at
 
 WORDS = ("value", "project", "state", "checkpoint", "position-on", "headroom", *OWN)
@@ -110,10 +110,10 @@ def print_total(outcomes: list[Outcome]) -> None:
     texts = [outcome.text for outcome in outcomes if outcome.text is not None]
     count = [str(len(texts)), str(len(outcomes))]
     if not texts:
-        print_lines(ALL, [["nothing", *count]])
+        print_lines(ALL_BOOKS, [["nothing", *count]])
         return
     *lines, last = total_of(texts)
-    print_lines(ALL, [*lines, [*last, *count]])
+    print_lines(ALL_BOOKS, [*lines, [*last, *count]])
 
 
 def print_all(outcomes: list[Outcome]) -> int:

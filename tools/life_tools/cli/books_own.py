@@ -11,13 +11,14 @@ from life_tools.common.arrays import np
 from life_tools.books.lists import ListedBook
 from life_tools.books.runs import Outcome
 from life_tools.books.sheets import MovedBook, Reported, groups_added, moved_added, plus
+from life_tools.reports.due_items import MOST_DAYS, Due
 from life_tools.reports.movement import CLOSING, OPENING
 from life_tools.valuations.class_bases import Bases, bases_in
 from life_tools.cli import books_audit
 from life_tools.cli.audit import late_argument, paper_arguments
-from life_tools.cli.due import MOST_DAYS, Due, listed, tell_sums
+from life_tools.cli.due import listed, tell_sums
 from life_tools.cli.movement import TOLD
-from life_tools.cli.report import HEADS, keys_in
+from life_tools.cli.report import keys_in
 from life_tools.common.files import demand_new, write_folder, write_text, written_whole
 from life_tools.common.formats import MEASURES, bytes_of, day_in, demand, number_of, remark, rows_in
 from life_tools.valuations.groups import Groups
@@ -27,7 +28,7 @@ from life_tools.reports.report_sheets import movement_sheet, sheet_of
 from life_tools.common.revisions import made_now
 from life_tools.reports.sheet_files import lines_of, write_csvs, write_workbook
 from life_tools.reports.sheet_pages import page
-from life_tools.reports.sheets import Sheet
+from life_tools.reports.sheets import HEADS, Sheet
 from life_tools.reports.statement import of_books
 
 # how many arguments follow each command, and how many of these are days
@@ -151,7 +152,7 @@ def report_sheets(options: argparse.Namespace, outcomes: Sequence[Outcome]) -> l
 
 def movement_sheets(options: argparse.Namespace, outcomes: Sequence[Outcome]) -> list[Sheet]:
     found: MovedBook = moved_added([outcome.made.what for outcome in outcomes])
-    notes = [f"{words} policies of the {name} have a word in place of bounds, and are in no sum"
+    notes = [f"{words} policies of the {name} have no value, and are in no sum"
              for name, words in zip((OPENING, CLOSING), found.words) if words]
     title = f"from {options.words[1]} to {options.words[2]}"
     return [movement_sheet(title, found.lines, found.cash, [*notes, *TOLD])]

@@ -22,82 +22,17 @@ from __future__ import annotations
 
 import argparse
 import sys
-from typing import Iterator, NamedTuple
+from typing import Iterator
 
-from life_tools.common.arrays import Array, Cents, np
+from life_tools.common.arrays import np
 from life_tools.journal.columns import looked_at, taken
-from life_tools.journal.day_columns import LAST, NEVER, anniversaries, number_at, texts_at
+from life_tools.journal.day_columns import number_at, texts_at
 from life_tools.cli.why import position_in
 from life_tools.common.formats import Wrong, day_in, demand, money, number_of, remark
-from life_tools.journal.policy_columns import LAPSED, TERM, Policies, is_insured, missed
 from life_tools.journal.record_texts import moneys
-from life_tools.rules.policies import GRACE, REINSTATEMENT_ANNIVERSARIES
 from life_tools.journal.wholeness import tell_doubt
-
-WHATS = ("premium", "grace", "lapse", "mature", "reinstate", "settle")
-PREMIUM, IN_GRACE, LAPSE, MATURE, REINSTATE, SETTLE = range(len(WHATS))
-SENT = ("lapse", "mature")
-MOST_DAYS = 366
-DAYS_OF_GRACE = GRACE.days
-
-
-class Due(NamedTuple):
-    """Items as columns: index in WHATS; day; policy; last day or NEVER; cents; the first day on which its line is accepted."""
-
-    what: Array
-    day: Array
-    number: Array
-    until: Array
-    cents: Cents
-    first: Array
-
-
-class Items:
-    """Finds what is due for policies from a first to a last day; no policy accepts a line before its own first day."""
-
-    def __init__(self, policies: Policies, day: int, within: int) -> None:
-        self.last = min(day + within, LAST)
-        first = np.maximum(policies.last, day)
-        taking = first <= self.last
-        self.of, self.first, self.due = policies.at(taking), first[taking], policies.due[taking]
-        self.found: list[Due] = []
-
-    def find(self, what: int, chosen: Array, day: Array, until: Array | np.int32, cents: Cents, first: Array) -> None:
-        """Adds an item for each policy that `chosen` marks; the other arguments have values for all policies."""
-        count = int(np.count_nonzero(chosen))
-        until = until[chosen] if isinstance(until, np.ndarray) else np.full(count, until)
-        self.found.append(Due(np.full(count, what), day[chosen], self.of.number[chosen], until, cents[chosen], first[chosen]))
-
-    def find_all(self) -> Due:
-        of, insured = self.of, is_insured(self.of)
-        self.paying(insured & (self.due != NEVER))
-        self.find(SETTLE, of.outstanding > 0, of.last, NEVER, of.outstanding, self.first)
-        self.lapsed(of.status == LAPSED)
-        items = Due(*(np.concatenate(column) for column in zip(*self.found)))
-        # kind, day and number together are unique
-        order = np.lexsort((items.number, items.day, items.what))
-        return Due(*(column[order] for column in items))
-
-    def paying(self, paying: Array) -> None:
-        """Finds the items of policies with a premium to come, which `paying` marks, and the maturities of all insured
-        policies."""
-        of, first, due = self.of, self.first, self.due
-        grace_end = np.where(paying, due, 0) + DAYS_OF_GRACE
-        self.find(LAPSE, paying & (first > grace_end), due, grace_end, of.premium, first)
-        paying &= (first <= grace_end) & (due <= self.last)
-        self.find(PREMIUM, paying & (first <= due), due, grace_end, of.premium, due)
-        self.find(IN_GRACE, paying & (first > due) & (first < of.end), due, grace_end, of.premium, first)
-        ended = np.maximum(of.end, first)
-        self.find(LAPSE, paying & (ended > grace_end) & (grace_end < self.last), due, grace_end, of.premium, grace_end + 1)
-        # policies that take no further premium, or whose cover ends within the grace of one
-        ending = (paying & (ended <= grace_end)) | (is_insured(of) & (due == NEVER))
-        self.find(MATURE, ending & (ended <= self.last), of.end, NEVER, np.where(of.plan == TERM, 0, of.amount), ended)
-
-    def lapsed(self, lapsed: Array) -> None:
-        """Finds the policies that can be reinstated, for the premiums missed up to their first day."""
-        of = self.of
-        until = np.minimum(anniversaries(of.issued, of.paid + REINSTATEMENT_ANNIVERSARIES), of.end - 1)
-        self.find(REINSTATE, lapsed & (self.first <= until), of.last, until, missed(of, self.first) * of.premium, self.first)
+from life_tools.reports.due_items import MOST_DAYS, SENT, WHATS, Due, Items
+from life_tools.rules.tables import NEVER
 
 
 def listed(items: Due) -> Iterator[str]:

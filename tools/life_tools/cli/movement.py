@@ -17,20 +17,14 @@ printed total; then nothing is written.
 from __future__ import annotations
 
 import argparse
-import os
-from typing import NamedTuple
 
-from life_tools.reports.movement import LINES, Cash, Changes, Moved, analysis, cash_of, changes_of, demand_booked
+from life_tools.reports.movement import LINES, Cash, Changes, Moved
+from life_tools.reports.moved_books import Books, Moment, moved_in
 from life_tools.valuations.class_bases import Bases, bases_in
-from life_tools.valuations.class_columns import valued_columns
-from life_tools.journal.copied_folder import JOURNAL
 from life_tools.cli.report import add_title
 from life_tools.common.files import write_text, written_whole
 from life_tools.cli.why import measure_arguments, position_in
 from life_tools.common.formats import Wrong, day_in, demand, money, remark
-from life_tools.journal.at_position import book_at
-from life_tools.journal.records import records_behind
-from life_tools.valuations.printed_columns import state_of
 from life_tools.valuations.printed_valuations import SHOWN
 from life_tools.reports.provenance import provenance, with_program
 from life_tools.reports.bulk_texts import COMMA, Letters
@@ -77,32 +71,6 @@ TOLD = ("each column is a sum of the printed rows' bounds, of the lower or of th
         "gone by` and `change of basis` are those whose reserve it changed")
 
 
-class Moment(NamedTuple):
-    """A day as it is given to the program, and a position."""
-
-    on: str
-    position: int
-
-
-class Books:
-    """The valuations and states at both positions, and the postings between them."""
-
-    def __init__(self, asked: Moment, later: Moment, bases: list[Bases], measure: str, folder: str, life: str | None) -> None:
-        on1, first, on2, last = *asked, *later
-        demand(first <= last, f"the closing position {last} is before the opening one, {first}")
-        basis, changed = bases[0], bases[-1]
-        names = list(dict.fromkeys(name for each in bases for name in each.names))
-        with book_at(folder, first, names, life) as copy:
-            self.opening = valued_columns(copy, on1, basis, measure)
-            self.before = state_of(copy.streams("state")).balances
-        with book_at(folder, last, names, life) as copy:
-            self.later_book = valued_columns(copy, on1, basis, measure)
-            self.later_day = valued_columns(copy, on2, basis, measure)
-            self.closing = valued_columns(copy, on2, changed, measure) if changed != basis else self.later_day
-            self.after = state_of(copy.streams("state")).balances
-            self.records = records_behind(os.path.join(copy.folder, JOURNAL), first, last)
-
-
 def text_of(changes: Changes, some: slice) -> bytes:
     """Returns the parts of some policies as rows of CSV."""
     letters = Letters(len(changes.number[some]))
@@ -145,16 +113,8 @@ def write_files(options: argparse.Namespace, lines: list[Moved], cash: Cash, not
         written_whole(options.html, lambda path: write_text(path, page(whole, told, sheets)))
 
 
-def moved_in(books: Books) -> tuple[Changes, list[Moved], Cash]:
-    """Returns the policies' changes, the lines and the cash, and raises Wrong unless they add up to what was printed."""
-    changes = changes_of(books.opening, books.later_book, books.later_day, books.closing, books.records)
-    lines, cash = analysis(changes, books.opening, books.closing), cash_of(books.records)
-    demand_booked(cash, books.before, books.after)
-    return changes, lines, cash
-
-
 def notes_of(books: Books) -> list[str]:
-    notes = [f"{valuation.words} policies of the {name} have a word in place of bounds, and are in no sum"
+    notes = [f"{valuation.words} policies of the {name} have no value, and are in no sum"
              for name, valuation in ((LINES[0], books.opening), (LINES[-1], books.closing)) if valuation.words]
     return [*notes, *TOLD]
 

@@ -25,19 +25,19 @@ from life_tools.journal.day_columns import number_at
 from life_tools.valuations.groups import KEYS, Groups, Sums, demand_whole, grouped, whole
 from life_tools.valuations.printed_columns import ColumnValuation
 from life_tools.valuations.joined_rows import read_both
+from life_tools.audit.bundles import bundle
 from life_tools.audit.drawn_samples import sample_of
 from life_tools.audit.papers import papers_of
 from life_tools.audit.samples import MEASURED, asked_in, seed_in
-from life_tools.reports.bundles import bundle
 from life_tools.reports.provenance import provenance, with_program
 from life_tools.reports.report_files import Tables, lines_of, write_csv
 from life_tools.reports.report_pages import page
 from life_tools.reports.report_sheets import sheet_of
 from life_tools.reports.sheet_files import warning_rows, write_workbook
+from life_tools.reports.sheets import HEADS
 from life_tools.common.files import write_text, written_whole
 
 DEFAULT = ("plan", "status", "issue-year")
-HEADS = {2: ("lower bound", "upper bound"), 4: ("lower bound", "upper bound", "minimum, lower", "minimum, upper")}
 
 
 def arguments(parser: argparse.ArgumentParser) -> None:

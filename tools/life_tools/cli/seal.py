@@ -11,7 +11,7 @@ a file are different, or if postings are gone. No seal is made of a book of
 which `verify` finds postings gone. The lines of a seal are
 
     seal,1,DAY ON WHICH IT WAS MADE
-    position,P,POSTINGS THAT THE JOURNAL HAD,LATEST DAY OF THE FIRST P
+    position,P,POSTINGS THAT THE JOURNAL HAD,LATEST DAY OF THE FIRST P, IF ANY
     front,BYTES,SHA-256                 the journal's first bytes
     file,NAME,BYTES,SHA-256             the basis and each table that it names
     sum,SHA-256 OF THE LINES ABOVE
@@ -56,5 +56,8 @@ def run(options: argparse.Namespace) -> int:
         return check(options.check, options.folder)
     status = tell(demand_undamaged(os.path.join(options.folder, JOURNAL)))
     bases = [] if options.no_basis else options.basis or ["basis.csv"]
-    sys.stdout.write(text_of(seal_of(options.folder, position_in(options.at), bases)))
+    seal = seal_of(options.folder, position_in(options.at), bases)
+    sys.stdout.write(text_of(seal))
+    if seal.day is None:
+        remark(f"no posting up to position {seal.position} has a day, so the seal's line `position` ends with an empty field")
     return status

@@ -29,6 +29,8 @@ MOST_VALUATIONS = 16
 MOST_WORKERS = 64
 MOST_LANES = 8
 MOST_YEARS = 131
+# what stands in place of a book's name before what is of all books of a list, such as their total
+ALL_BOOKS = "all"
 
 PLANS = {1: "term", 2: "whole", 3: "endowment", 4: "limited"}
 KINDS = {1: "issue", 2: "premium", 3: "alter", 4: "lapse", 5: "reinstate", 6: "claim", 7: "settle", 8: "mature", 9: "upgrade",

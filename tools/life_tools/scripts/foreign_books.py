@@ -36,10 +36,11 @@ import re
 from dataclasses import dataclass, field
 from typing import Callable, Iterator
 
-from life_tools.rules.commands import OLDEST_AT_ISSUE, UPGRADE, Command, years_fit
+from life_tools.rules.commands import UPGRADE, Command, years_fit
 from life_tools.common.formats import (FIRST_DAY, LAST_DAY, MOST_CENTS, MOST_NUMBER, PLANS, Wrong, bytes_of, demand, money,
                                        rows_in, text_of)
 from life_tools.rules.policies import GRACE, Policy, anniversary, completed, decide, due_of, payments_of
+from life_tools.rules.tables import OLDEST_AT_ISSUE
 
 FIELDS = ("number", "day", "plan", "age", "birth", "years", "amount", "premium", "paid", "paid-to", "status", "reduced", "class")
 WANTED = ("number", "day", "plan", "years", "amount", "premium")

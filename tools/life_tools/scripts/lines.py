@@ -6,7 +6,8 @@ import datetime
 from dataclasses import dataclass
 from typing import Any, Callable
 
-from life_tools.rules.commands import OLDEST_AT_ISSUE, Command, years_fit
+from life_tools.rules.commands import Command, years_fit
+from life_tools.rules.tables import OLDEST_AT_ISSUE
 from life_tools.common.formats import (FIELDS, FIRST_DAY, LAST_DAY, MOST_CENTS, MOST_COMMANDS, MOST_LANES, MOST_NUMBER,
                                        MOST_REINSTATEMENT_CENTS, MOST_SCRIPT_BYTES, MOST_VALUATIONS, MOST_WORKERS, PLANS,
                                        Row, Wrong, bytes_of, cents_of, day_of, money, number_of, rows_in)

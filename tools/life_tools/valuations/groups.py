@@ -8,8 +8,8 @@ from life_tools.common.arrays import Array, Cents, np
 from life_tools.valuations.class_columns import BasisColumn
 from life_tools.journal.day_columns import FIRST_YEAR, LAST_YEAR, years_at
 from life_tools.common.formats import PLANS, STATUSES, Wrong, demand, money
-from life_tools.journal.policy_columns import CODE_OF_STATUS
 from life_tools.valuations.printed_columns import ColumnState, ColumnValuation, P, Rows, StatePolicies
+from life_tools.rules.tables import CODE_OF_STATUS
 
 AGES_IN_A_BAND = 10
 # so many low bits of the cents of 4,000,000 policies can be added up in floats without rounding

@@ -15,13 +15,13 @@ from itertools import chain
 from typing import Callable, Generic, Iterable, Iterator, NamedTuple, Sequence, TypeVar
 
 from life_tools.common.arrays import Array, Cents, np
-from life_tools.rules.commands import EPOCH, OLDEST_AT_ISSUE
+from life_tools.rules.commands import EPOCH
+from life_tools.rules.tables import ACCOUNTS, OLDEST_AT_ISSUE
 from life_tools.journal.day_columns import FIRST, LAST
 from life_tools.common.formats import (MOST_NUMBER, MOST_YEARS, PLANS, STATUSES, Wrong, day_in, demand, measure_of, money,
                                        number_of, printed_cents)
 from life_tools.journal.policy_columns import Policies, issue_terms
 from life_tools.valuations.printed_books import ValuedRow
-from life_tools.rules.policies import ACCOUNTS
 from life_tools.reserves.worked_rows import WORDS
 
 LINE_END, COMMA, POINT, MINUS, ZERO = b"\n,.-0"
