@@ -1,5 +1,6 @@
 """A real browser for tests of the window: what a person reads, types and presses, at the width of a desk and of a phone."""
 import importlib
+import json
 import re
 import time
 from pathlib import Path
@@ -102,9 +103,12 @@ class Browser:
         for each in OPTIONS:
             options.add_argument(each)
         options.binary_location = "/usr/bin/chromium"
+        options.set_capability("goog:loggingPrefs", {"performance": "ALL"})
         self.driver = webdriver.Chrome(service=Service("/usr/bin/chromedriver"), options=options)
         self.driver.set_page_load_timeout(PATIENCE)
         self.size, self.shots, self.scheme, self.kept = size, shots, scheme, 0
+        # for each page that was received, whether it reloads by itself
+        self.reloading: dict[str, bool] = {}
         self.measure(size[1])
         media = {"features": [{"name": "prefers-color-scheme", "value": scheme}]}
         self.driver.execute_cdp_cmd("Emulation.setEmulatedMedia", media)
@@ -136,6 +140,16 @@ class Browser:
             if time.monotonic() > ends:
                 raise AssertionError(f"after {PATIENCE} seconds the page still waits: {self.driver.title}")
             time.sleep(0.1)
+        demand(not self.reloads(), f"the page {self.driver.title!r} reloads by itself")
+
+    def reloads(self) -> bool:
+        """Returns whether the page that is shown reloads by itself, by the headers with which the browser received it."""
+        for line in self.driver.get_log("performance"):
+            event = json.loads(line["message"])["message"]
+            if event["method"] == "Network.responseReceived" and event["params"]["type"] == "Document":
+                received = event["params"]["response"]
+                self.reloading[received["url"]] = "refresh" in {name.lower() for name in received["headers"]}
+        return self.reloading[self.driver.current_url.partition("#")[0]]
 
     def press(self, words: list[str]) -> Any:
         """Presses the link or button with this text. It tries again if the page was loaded anew meanwhile."""

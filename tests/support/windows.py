@@ -142,6 +142,8 @@ class Window:
         return answer
 
     def page(self, path: str) -> Answer:
+        """Returns a page, which must not reload by itself while somebody reads it."""
         answer = self.get(path)
         assert answer.status == 200, f"{path}: {answer.status}: {answer.text[:1500]} {self.err.read_text()[-1500:]}"
+        assert "Refresh" not in answer.headers, f"{path} reloads by itself"
         return answer

@@ -34,7 +34,7 @@ def first_page(window: Window) -> Answer:
     ends = time.monotonic() + PATIENCE
     while time.monotonic() < ends:
         answer = window.page("/1/")
-        if "still to be valued" not in answer.text:
+        if "<iframe" not in answer.page:
             return answer
         time.sleep(0.2)
     raise AssertionError("the year-ends aren't valued")

@@ -19,7 +19,8 @@ from tests.support.folders import Folder
 from tests.support.windows import PATIENCE, Answer, Window
 
 pytestmark = pytest.mark.needs("python:flask")
-POLICY = ("default-src 'none'; style-src 'self'; img-src 'self'; form-action 'self'; base-uri 'none'; frame-ancestors 'none'")
+POLICY = ("default-src 'none'; style-src 'self'; img-src 'self'; frame-src 'self'; form-action 'self'; base-uri 'none'; "
+          "frame-ancestors 'none'")
 MOST_CONNECTIONS, WHOLE_REQUEST = 64, 15
 
 

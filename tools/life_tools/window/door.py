@@ -7,6 +7,7 @@ machine, on whatever port, does not receive it.
 from __future__ import annotations
 
 import hmac
+import re
 import secrets
 import threading
 from dataclasses import dataclass, field
@@ -25,15 +26,22 @@ TOKEN_BYTES = 16
 MOST_LETTERS = 1024
 # at most so many tokens are open at a time; a further one invalidates the oldest
 MOST_OPEN = 16
-POLICY = ("default-src 'none'; style-src 'self'; img-src 'self'; form-action 'self'; base-uri 'none'; "
-          "frame-ancestors 'none'")
-HEADERS = (("Content-Security-Policy", POLICY), ("Referrer-Policy", "no-referrer"), ("Cache-Control", "no-store"),
-           ("X-Content-Type-Options", "nosniff"), ("Cross-Origin-Resource-Policy", "same-origin"))
+# pages of a book that another page of the window shows in a frame; no other page can be shown in one
+FRAMED = re.compile(r"/[0-9]+/year-ends")
+POLICY = "default-src 'none'; style-src 'self'; img-src 'self'; frame-src 'self'; form-action 'self'; base-uri 'none'"
+HEADERS = (("Referrer-Policy", "no-referrer"), ("Cache-Control", "no-store"), ("X-Content-Type-Options", "nosniff"),
+           ("Cross-Origin-Resource-Policy", "same-origin"))
 REASONS = {303: "See Other", 403: "Forbidden", 404: "Not Found", 405: "Method Not Allowed", 414: "URI Too Long"}
 
 
 def new_secret() -> str:
     return secrets.token_hex(TOKEN_BYTES)
+
+
+def headers_of(path: str) -> list[tuple[str, str]]:
+    """Returns the headers of each answer to a request for a path after the prefix."""
+    framing = "'self'" if FRAMED.fullmatch(path) else "'none'"
+    return [("Content-Security-Policy", f"{POLICY}; frame-ancestors {framing}"), *HEADERS]
 
 
 def same(one: str, other: str) -> bool:
@@ -65,11 +73,13 @@ class Door:
         return f"http://127.0.0.1:{self.port}{page}{'&' if '?' in page else '?'}token={token}"
 
     def __call__(self, environ: Environment, start: StartResponse) -> Iterable[bytes]:
-        def guarded(status: str, headers: list[tuple[str, str]], *failure: Any) -> Any:
-            names = {name.lower() for name, _ in HEADERS}
-            return start(status, [each for each in headers if each[0].lower() not in names] + list(HEADERS), *failure)
-
         answer = self.refusal(environ) or self.exchange(environ)
+        own = headers_of("" if answer else environ["PATH_INFO"].removeprefix(self.prefix))
+
+        def guarded(status: str, headers: list[tuple[str, str]], *failure: Any) -> Any:
+            names = {name.lower() for name, _ in own}
+            return start(status, [each for each in headers if each[0].lower() not in names] + own, *failure)
+
         if answer is None:
             environ["SCRIPT_NAME"] = self.prefix
             environ["PATH_INFO"] = environ["PATH_INFO"].removeprefix(self.prefix)

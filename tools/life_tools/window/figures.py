@@ -15,7 +15,7 @@ from life_tools.journal.records import CLAIM, MATURE, PREMIUM, REINSTATE
 from life_tools.valuations.class_bases import measure_words
 from life_tools.valuations.groups import added
 from life_tools.window.history import NO_DAY, History
-from life_tools.window.jobs import Job
+from life_tools.window.jobs import Job, TooMuch
 from life_tools.window.runs import printed_by
 from life_tools.window.views import View
 from life_tools.rules.tables import INFORCE, NEVER
@@ -213,9 +213,13 @@ def totals_of(book: View, ends: Sequence[YearEnd]) -> Totals:
     return Totals(found[::-1], failure)
 
 
-def asked_total(book: View, end: YearEnd, key: tuple[object, ...]) -> Job:
+def asked_total(book: View, end: YearEnd, key: tuple[object, ...]) -> Job | None:
+    """Asks the program for a year-end, unless too much waits for it already."""
     title = f"the mean reserve on {end.day} at position {end.position:,}"
-    return book.copy.jobs.job(key, title, lambda job: total_of(book.at_position(end.position), end.day, job))
+    try:
+        return book.copy.jobs.job(key, title, lambda job: total_of(book.at_position(end.position), end.day, job))
+    except TooMuch:
+        return None
 
 
 def total_of(book: View, on: datetime.date, job: Job) -> Total:

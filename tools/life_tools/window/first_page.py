@@ -12,13 +12,13 @@ from life_tools.window.due_lists import DueOn, due_on
 from life_tools.window.figures import MEASURE, Figures, Totals, figures_of, told, totals_of
 from life_tools.window.find_pages import policy_cell
 from life_tools.window.lists import Kind, kinds_of
-from life_tools.window.parts import RIGHT, Answer, Cell, Head, Page, Table, cells, heads
+from life_tools.window.parts import RIGHT, Answer, Cell, Head, Page, Progress, Table, cells, heads
 from life_tools.window.policies import STATUSES as STATUS_WORDS
 from life_tools.window.standing import waiting_in
 from life_tools.window.views import View
 
 NEWEST = 8
-# the page reloads after so many seconds while year-ends are still being valued
+# the frame that counts the year-ends to be valued reloads after so many seconds
 REFRESH = 2
 COLOURS = {"inforce": "c1", "paidup": "c2", "lapsed": "c5", "claimed": "c4", "matured": "c3", "expired": "c6", "settled": "c7"}
 
@@ -48,8 +48,24 @@ def first_page(book: View, asked: Asked) -> Answer:
              ("amount insured", money(sum(it.cents for it in insured)))]
     values = {"facts": facts, "totals": totals, "pictures": pictures, "gauge": headroom_gauge(book), "on": on,
               "waits": waiting_table(book, past), "past": past.sums.get("lapse", (0, 0))[0], "past_on": past.day,
-              "by_status": by_status(book, kinds), "posted": posted(book), "left": f"{MOST_COMMANDS - book.at:,}"}
-    return Page("overview.html", "The book", values, REFRESH if totals.missing and not totals.failure else 0)
+              "by_status": by_status(book, kinds), "posted": posted(book), "left": f"{MOST_COMMANDS - book.at:,}",
+              "year_ends_link": book.link("year-ends", on=on)}
+    return Page("overview.html", "The book", values)
+
+
+def year_ends(book: View, asked: Asked) -> Progress:
+    """Returns the frame of the first page that says how many year-ends the program has still to value. Each time it is asked
+    for, the program is asked for the next one."""
+    asked.only(("at", "on"))
+    on = asked.day_or_none("on")
+    totals = totals_of(book, figures_of(book, on).year_ends)
+    page = book.link("", on=on)
+    if totals.failure:
+        return Progress("Not every year-end could be valued.", "Show the reason", page)
+    if totals.missing:
+        return Progress(f"{totals.missing:,} {'year-end' if totals.missing == 1 else 'year-ends'} still to be valued.",
+                        refresh=REFRESH)
+    return Progress("All year-ends are valued.", "Show them", page)
 
 
 def year_end_picture(book: View, figures: Figures, totals: Totals) -> Picture | None:

@@ -17,10 +17,20 @@ class Page:
     template: str
     title: str
     values: Mapping[str, Any]
-    # the page reloads after so many seconds, because a part of it is still being made
-    refresh: int = 0
     # the view of the page if it is not the one of its address
     of: Any = None
+
+
+@dataclass(frozen=True)
+class Progress:
+    """A frame in a page: how far a piece of work is, and a link to the page with its result. A frame has no field, so it can
+    reload by itself while somebody types into the page around it."""
+
+    says: str
+    link_says: str = ""
+    link: str = ""
+    # the frame reloads after so many seconds; 0 if there is nothing to wait for
+    refresh: int = 0
 
 
 @dataclass(frozen=True)
@@ -39,7 +49,7 @@ class Elsewhere:
     link: str
 
 
-Answer = Union[Page, File, Elsewhere]
+Answer = Union[Page, Progress, File, Elsewhere]
 
 
 @dataclass(frozen=True)

@@ -20,14 +20,14 @@ from life_tools.window.door import Application, Door
 from life_tools.window.downloads import warned
 from life_tools.window.jobs import Failed, Job, TooMuch, Working
 from life_tools.window.moments import moment_of, timeline
-from life_tools.window.parts import Answer, Elsewhere, File, Page
+from life_tools.window.parts import Answer, Elsewhere, File, Page, Progress
 from life_tools.window.views import POSITIONS, Gone, View, address, view_of
 
 PACKAGE = "life_tools.window"
 Show = Callable[[View, Asked], Answer]
 PAGES: dict[str, Show] = {
-    "": first_page.first_page, "find": find_pages.find, "policy": policy_pages.policy, "moment": moment_of,
-    "premiums": posting_pages.premiums, "postings": posting_pages.postings, "held": posting_pages.held,
+    "": first_page.first_page, "year-ends": first_page.year_ends, "find": find_pages.find, "policy": policy_pages.policy,
+    "moment": moment_of, "premiums": posting_pages.premiums, "postings": posting_pages.postings, "held": posting_pages.held,
     "refusals": posting_pages.refusals,
     "day": day_pages.day, "day/list": day_pages.day_list, "day/list.csv": day_pages.day_csv, "day/lines.csv": day_pages.day_lines,
     "month": month_pages.month, "report": month_pages.report, "report.csv": month_pages.report_csv,
@@ -51,7 +51,9 @@ OF_FILE = {"day/list.csv": "day/list", "day/lines.csv": "day/list", "report.csv"
            "movement.csv": "movement", "movement.xlsx": "movement", "movement-policies.csv": "movement",
            "statement.csv": "statement", "statement.xlsx": "statement", "seal.txt": "audit", "flags.csv": "flags",
            "sample.txt": "sample", "papers.html": "sample", "letters.csv": "sample", "letters.html": "sample"}
-# seconds after which a page reloads while it waits
+# the page that each frame belongs to; the door lets only these be shown in a frame
+FRAMES = {"year-ends": ""}
+# seconds after which the page of a piece of work reloads. No page with a field reloads by itself.
 REFRESH = 1
 
 
@@ -147,6 +149,8 @@ class Site:
             response = self.flask.Response(file.parts, mimetype=file.kind)
             response.headers["Content-Disposition"] = f'attachment; filename="{file.name}"'
             return response
+        if isinstance(answer, Progress):
+            return self.progress(answer)
         return self.page(answer.of or view, name, answer, asked)
 
     @staticmethod
@@ -174,8 +178,11 @@ class Site:
                  "older_basis": "" if view.basis in (copy.basis, *self.others(copy)) else view.newest_link(under),
                  "times": timeline(view, name, asked),
                  "share": view.link("share", of=name, **self.words_of(asked)) if name in PAGES else ""}
-        response = self.rendered(answer.template, answer.title, {**frame, **answer.values})
-        return self.again(response, answer.refresh) if answer.refresh else response
+        return self.rendered(answer.template, answer.title, {**frame, **answer.values})
+
+    def progress(self, it: Progress, status: int = 200) -> Any:
+        response = self.rendered("progress.html", "Progress", {"it": it}, status)
+        return self.again(response, it.refresh) if it.refresh else response
 
     @staticmethod
     def others(copy: BookCopy) -> list[Any]:
@@ -188,7 +195,7 @@ class Site:
         return self.flask.Response(text.encode("utf-8", "replace"), status=status, mimetype="text/html")
 
     def again(self, response: Any, seconds: int) -> Any:
-        """Makes the page reload by itself.
+        """Makes a page or a frame that has no field reload by itself.
 
         The header names the address, since a page that was reached by an anchor would otherwise not be fetched again.
         """
@@ -200,6 +207,8 @@ class Site:
     def waiting(self, book: BookCopy, job: Job, name: str) -> Any:
         """Returns the page that is shown while work is done. A file comes as a download and leaves this page where it is, so the
         page then has a link back."""
+        if name in FRAMES:
+            return self.progress(Progress(f"{job.title[:1].upper()}{job.title[1:]}: {job.doing}", refresh=REFRESH), 202)
         words = {word: text for word, text in self.flask.request.args.items(multi=True) if word != "sheet"}
         back = address(self.root, book.number, OF_FILE[name], words) if name in OF_FILE else ""
         values = {"copy": book, "job": job, "back": back}
@@ -207,6 +216,9 @@ class Site:
 
     def told(self, status: int, what: str, why: str, book: BookCopy | None = None, name: str = "") -> Any:
         """Returns a page with a reason, with the menu and with what was typed, so that it can be corrected."""
+        if book and name in FRAMES:
+            page = address(self.root, book.number, FRAMES[name], {})
+            return self.progress(Progress(f"{what}.", "Show the reason", page), status)
         values: dict[str, Any] = {"why": book.without_paths(why) if book else why, "copy": book, "status": status}
         if book and book.positions:
             values["menu"] = [(says, address(self.root, book.number, page, {}), page == UNDER.get(name, name))
