@@ -89,37 +89,48 @@ def test_the_key_is_not_written_to_a_pipe(tools: Path, lived: Folder, tmp_path: 
 # --- limits ---
 
 def test_a_slow_request_is_ended(window: Window) -> None:
-    """A byte every half second is too slow for a limit of 15 seconds."""
+    """A byte every half second is too slow for a limit of 15 seconds; all of them would take 90."""
+    begun = time.monotonic()
     with socket.create_connection(("127.0.0.1", window.port), PATIENCE) as line:
-        begun = time.monotonic()
         with pytest.raises(OSError):
-            for letter in b"GET / HTTP/1.1\r\nX: " + b"a" * 60:
+            for letter in b"GET / HTTP/1.1\r\nX: " + b"a" * 160:
                 line.sendall(bytes([letter]))
                 time.sleep(0.5)
-        assert WHOLE_REQUEST - 1 < time.monotonic() - begun < WHOLE_REQUEST + 10
+        assert time.monotonic() - begun > WHOLE_REQUEST
     window.page("/1/")
+
+
+def turned_away(held: list[socket.socket]) -> list[socket.socket]:
+    """Returns the connections that were answered by 503; what others are answered isn't read."""
+    found = []
+    for line in held:
+        line.settimeout(0.05)
+        try:
+            if line.recv(12, socket.MSG_PEEK) == b"HTTP/1.0 503":
+                found.append(line)
+        except OSError:
+            continue
+    return found
 
 
 def test_no_more_connections_than_it_serves(window: Window) -> None:
     """A hundred connections say nothing: those beyond the limit are ended at once, and all others in time."""
     held = [socket.create_connection(("127.0.0.1", window.port), PATIENCE) for _ in range(100)]
     try:
-        time.sleep(2)
-        answered = 0
-        for line in held:
-            line.settimeout(0.05)
-            try:
-                answered += line.recv(12) == b"HTTP/1.0 503"
-            except OSError:
-                continue
-        assert answered == 100 - MOST_CONNECTIONS
+        ends = time.monotonic() + PATIENCE
+        while len(found := turned_away(held)) < 100 - MOST_CONNECTIONS and time.monotonic() < ends:
+            time.sleep(0.1)
+        assert len(found) == 100 - MOST_CONNECTIONS
         with open(f"/proc/{window.process.pid}/status") as status:
             threads = next(int(row.split()[1]) for row in status if row.startswith("Threads:"))
         assert threads < MOST_CONNECTIONS + 40, "a connection that isn't served holds a thread"
     finally:
         for line in held:
             line.close()
-    time.sleep(1)
+    ends = time.monotonic() + PATIENCE
+    while window.ask(f"{window.root}/1/find").status == 503:
+        assert time.monotonic() < ends, "ended connections still hold their places"
+        time.sleep(0.1)
     window.page("/1/")
 
 

@@ -11,7 +11,7 @@ from pathlib import Path
 import pytest
 
 from tests.support.folders import Folder
-from tests.support.windows import Window
+from tests.support.windows import PATIENCE, Window
 
 pytestmark = pytest.mark.needs("python:flask")
 
@@ -70,7 +70,7 @@ def test_a_book_in_use_is_only_read(tools: Path, two: Folder, tmp_path: Path) ->
 def refused(tools: Path, folder: Path, *words: str) -> str:
     (folder / "temporary").mkdir(exist_ok=True)
     ran = subprocess.run([sys.executable, "-B", str(tools), "browse", *words], cwd=folder, capture_output=True, text=True,
-                         timeout=60, env={**os.environ, "TMPDIR": str(folder / "temporary")}, check=False)
+                         timeout=PATIENCE, env={**os.environ, "TMPDIR": str(folder / "temporary")}, check=False)
     assert ran.returncode == 2 and not ran.stdout and not list((folder / "temporary").iterdir()), ran
     return ran.stderr
 

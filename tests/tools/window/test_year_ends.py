@@ -104,9 +104,10 @@ def types_while_it_counts(shown: Any, page: str) -> None:
     shown.open(page)
     field = shown.field("Number of a policy, or part of it")
     field.send_keys("7")
-    before, said = driver.execute_script("return history.length"), set()
+    before, said, ends = driver.execute_script("return history.length"), set(), time.monotonic() + PATIENCE
     while "Show them" not in (now := framed(shown)):
         said.add(now)
+        assert time.monotonic() < ends, f"the year-ends aren't valued: {said}"
         time.sleep(0.2)
     assert len(said) > 3, said
     field.send_keys("1")
