@@ -21,7 +21,8 @@ LABELS = {"on": "Day", "on1": "Opening day", "on2": "Closing day", "before": "Da
           "p2": "Closing position", "at": "Position", "after": "After position", "number": "Number of the policy",
           "count": "Policies asked for", "seed": "Seed", "within": "Days", "measure": "Measure", "by": "By",
           "other": "Other basis", "plan": "Plan", "status": "Status", "sort": "Sorted by", "order": "Order", "what": "What",
-          "month": "Month", "year": "Year", "kind": "Kind", "line": "Line", "group": "Group", "page": "Page", "of": "Page"}
+          "month": "Month", "since": "From the day on", "year": "Year",
+          "kind": "Kind", "line": "Line", "group": "Group", "page": "Page", "of": "Page"}
 
 
 def label(name: str) -> str:

@@ -55,7 +55,7 @@ def audit(book: View, asked: Asked) -> Answer:
     before = asked.day_or_none("before")
     if before is None and on is not None:
         before = datetime.date(on.year - 1, 12, 31) if on.year > 1900 else None
-    seal, day = sealed(book), on or book.day
+    seal, day = sealed(book), on or book.last_day
     values = {"seal": seal.printed, "download": book.link("seal.txt"), "whole": whole_or_why(book), "on": on, "day": day,
               "before": before, "after": book.history().position_on(number_at(before)) if before else 0,
               "late": late, "last_link": book.newest_link("audit", on=on, p=late.last, before=before) if late else "",

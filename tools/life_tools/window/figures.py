@@ -9,7 +9,7 @@ from typing import NamedTuple, Sequence
 from life_tools.common.arrays import Array, Cents, np
 from life_tools.common.formats import demand, money, printed_cents
 from life_tools.journal.at_position import WORKERS
-from life_tools.journal.day_columns import anniversaries, number_at
+from life_tools.journal.day_columns import FIRST, anniversaries, number_at
 from life_tools.journal.policy_columns import Policies, missed_by
 from life_tools.journal.records import CLAIM, MATURE, PREMIUM, REINSTATE
 from life_tools.valuations.class_bases import measure_words
@@ -47,6 +47,18 @@ class Figures:
     years: list[str]
     claims: list[int]
     maturities: list[int]
+    ahead: Ahead | None = None
+
+
+class Ahead(NamedTuple):
+    """Postings of days far ahead, which no chart shows: their number, their first and their last day, and the position of the
+    first of them; and how many postings of days that are shown came after that position."""
+
+    postings: int
+    first: datetime.date
+    last: datetime.date
+    position: int
+    after: int
 
 
 def month_of(days: Array) -> Array:
@@ -87,28 +99,30 @@ def paid_installments(history: History) -> Installments:
     return Installments(due, cents, each + 1, np.full(len(each), -1))
 
 
-def unpaid_installments(of: Policies, until: int) -> Installments:
-    """Returns the unpaid premiums, due up to a day, of policies that are in force by their status."""
-    place = np.flatnonzero((of.status == INFORCE) & (of.due != NEVER) & (of.due <= until))
-    count = missed_by(of.at(place), np.full(len(place), until, np.int32)).astype(np.int64)
+def unpaid_installments(of: Policies, first: int, last: int) -> Installments:
+    """Returns the unpaid premiums, due between two days, of policies that are in force by their status."""
+    place = np.flatnonzero((of.status == INFORCE) & (of.due != NEVER) & (of.due <= last))
+    of_place = of.at(place)
+    by_then = missed_by(of_place, np.full(len(place), last, np.int32)).astype(np.int64)
+    before = missed_by(of_place, np.full(len(place), first - 1, np.int32)).astype(np.int64) if first > FIRST else 0 * by_then
+    count = by_then - before
     each = np.repeat(place, count)
-    nth = np.arange(len(each)) - np.repeat(np.cumsum(count) - count, count)
+    nth = np.arange(len(each)) - np.repeat(np.cumsum(count) - count - before, count)
     due = anniversaries(of.issued[each], of.paid[each] + nth)
     return Installments(due, of.premium[each], np.zeros(len(each), np.int64), each)
 
 
-def installments(book: View, history: History, until: int) -> Installments:
-    """Returns all premiums that were paid, and those of policies in force that fell due up to a day and are unpaid."""
-    paid, unpaid = paid_installments(history), unpaid_installments(book.policies(), until)
-    return Installments(*(np.concatenate([one, other]) for one, other in zip(paid, unpaid)))
+def installments(book: View, history: History, first: int, last: int) -> Installments:
+    """Returns the premiums that fell due between two days: those that were paid, and those of policies in force that are
+    unpaid."""
+    paid, unpaid = paid_installments(history), unpaid_installments(book.policies(), first, last)
+    mine = np.flatnonzero((paid.due >= first) & (paid.due <= last))
+    return Installments(*(np.concatenate([one[mine], other]) for one, other in zip(paid, unpaid)))
 
 
-def month_ends(last: int) -> tuple[int, int, int]:
-    """Returns the first month that is shown, the number of months, and the last day of the last one."""
-    now = int(month_of(np.array([last]))[0])
-    first, count = now - MONTHS_BEFORE + 1, MONTHS_BEFORE + MONTHS_AHEAD
-    until = int((np.datetime64(first + count, "M").astype("datetime64[D]") - np.timedelta64(1, "D")).astype(np.int64))
-    return first, count, until
+def first_of(month: int) -> int:
+    """Returns the first day of a month that is counted from January 1970."""
+    return int(np.datetime64(month, "M").astype("datetime64[D]").astype(np.int64))
 
 
 # --- all figures ---
@@ -135,21 +149,22 @@ def figures_of(book: View, on: datetime.date | None) -> Figures:
     """Returns the figures of a position on a day, by default the day of its last posting; raises Working while they are made."""
     # what an earlier position needs is made first, and not as part of this work
     book.policies()
-    day = None if book.at == book.copy.newest else on
-    found = book.copy.kept(("figures", book.at, day), "the figures of the first page", lambda job: made(book, day))
+    last = book.last_day
+    if last and on and book.at != book.copy.newest:
+        last = max(last, on)
+    found = book.copy.kept(("figures", book.at, last), "the figures of the first page", lambda job: made(book, last))
     assert isinstance(found, Figures)
     return found
 
 
-def made(book: View, on: datetime.date | None) -> Figures:
-    """Returns the figures up to the day of the last posting, or up to a later day if nothing more was posted by then."""
+def made(book: View, until: datetime.date | None) -> Figures:
+    """Returns the figures up to a day: the last one with a posting, or a later one if nothing more was posted by then."""
     history = book.history()
-    last = int(history.latest[-1]) if len(history) else int(NO_DAY)
-    if last == NO_DAY:
+    if until is None:
         return Figures([], [], [], [], [], [], [])
-    last = max(last, number_at(on)) if on else last
-    first, count, until = month_ends(last)
-    premiums = installments(book, history, until)
+    last = number_at(until)
+    first, count = int(month_of(np.array([last]))[0]) - MONTHS_BEFORE + 1, MONTHS_BEFORE + MONTHS_AHEAD
+    premiums = installments(book, history, first_of(first), first_of(first + count) - 1)
     is_received, months = np.isin(history.kind, RECEIVED), month_of(history.day)
     ends = year_ends_of(history, last)
     # the addresses of these positions contain checksums of the journal up to them
@@ -157,7 +172,18 @@ def made(book: View, on: datetime.date | None) -> Figures:
     years, claims, maturities = claims_by_year(history, last)
     return Figures(ends, [label_of(month) for month in range(first, first + count)],
                    sums_in(month_of(premiums.due), first, count, premiums.cents),
-                   sums_in(months[is_received], first, count, history.booked[is_received]), years, claims, maturities)
+                   sums_in(months[is_received], first, count, history.booked[is_received]), years, claims, maturities,
+                   ahead_of(history, last))
+
+
+def ahead_of(history: History, last: int) -> Ahead | None:
+    """Returns the postings of days after the last one that is shown, or None."""
+    places = np.flatnonzero(history.day > last)
+    if not len(places):
+        return None
+    days, rest = history.day[places], history.day[places[0]:]
+    return Ahead(len(places), day_of_number(int(days.min())), day_of_number(int(days.max())), int(places[0]) + 1,
+                 int(np.count_nonzero((rest != NO_DAY) & (rest <= last))))
 
 
 def claims_by_year(history: History, last: int) -> tuple[list[str], list[int], list[int]]:

@@ -9,7 +9,7 @@ from life_tools.reports.report_pages import money
 from life_tools.reports import charts
 from life_tools.window.asked import Asked
 from life_tools.window.due_lists import DueOn, due_on
-from life_tools.window.figures import MEASURE, Figures, Totals, figures_of, told, totals_of
+from life_tools.window.figures import MEASURE, Ahead, Figures, Totals, figures_of, told, totals_of
 from life_tools.window.find_pages import policy_cell
 from life_tools.window.lists import Kind, kinds_of
 from life_tools.window.parts import RIGHT, Answer, Cell, Head, Page, Progress, Table, cells, heads
@@ -49,8 +49,41 @@ def first_page(book: View, asked: Asked) -> Answer:
     values = {"facts": facts, "totals": totals, "pictures": pictures, "gauge": headroom_gauge(book), "on": on,
               "waits": waiting_table(book, past), "past": past.sums.get("lapse", (0, 0))[0], "past_on": past.day,
               "by_status": by_status(book, kinds), "posted": posted(book), "left": f"{MOST_COMMANDS - book.at:,}",
-              "year_ends_link": book.link("year-ends", on=on)}
+              "ahead": ahead_of(book, figures), "year_ends_link": book.link("year-ends", on=on)}
     return Page("overview.html", "The book", values)
+
+
+class NotShown(NamedTuple):
+    """A sentence about postings that no chart shows, with the link to their list; and one about those that no year-end has, with
+    the link to the positions of the last year-end, or "" for both."""
+
+    says: str
+    link: str
+    year_ends: str
+    year_ends_link: str
+
+
+def ahead_of(book: View, figures: Figures) -> NotShown | None:
+    """Returns what is said about postings of days far ahead, or None if there are none."""
+    it = figures.ahead
+    if it is None:
+        return None
+    days = f"{it.first}" if it.first == it.last else f"days from {it.first} to {it.last}"
+    first, last = (f"{day:%Y-%m}" for day in (it.first, it.last))
+    hidden = f"the month {first} isn't" if first == last else f"the months {first} to {last} aren't"
+    are = "posting is" if it.postings == 1 else "postings are"
+    says = (f"{it.postings:,} {are} of {days}, far ahead of all others: {hidden} shown in the charts, which end with "
+            f"{figures.months[-1]}.")
+    return NotShown(says, book.link("postings", since=it.first), *without(book, figures, it))
+
+
+def without(book: View, figures: Figures, it: Ahead) -> tuple[str, str]:
+    """Returns a sentence about the postings that no year-end has, because they came after one of a later day, and its link."""
+    if not it.after or not figures.year_ends:
+        return "", ""
+    says = (f"{it.after:,} {'posting' if it.after == 1 else 'postings'} of earlier days came after position {it.position:,}, "
+            f"the first of these, and {'is' if it.after == 1 else 'are'} at no year-end of the charts.")
+    return says, book.link("month", on=figures.year_ends[-1].day)
 
 
 def year_ends(book: View, asked: Asked) -> Progress:

@@ -21,6 +21,8 @@ BEGINS, ENDS = (ISSUE, REINSTATE), (LAPSE, CLAIM, MATURE)
 SETS_AMOUNT, SETS_PREMIUM = (ISSUE, ALTER, PAIDUP), (ISSUE, ALTER)
 # earlier than every day; used for an upgrade, which has no day
 NO_DAY = np.int32(-2**31)
+# a day to come is far ahead if it is so many days after today and after the last posting before it
+FAR = 366
 
 
 @dataclass(frozen=True)
@@ -49,6 +51,19 @@ class History:
         """Returns the days of the postings that have one."""
         found: Array = self.day[self.day != NO_DAY]
         return found
+
+    def last_day(self, today: int) -> int | None:
+        """Returns the last day that has a posting, or None. A day far ahead, which somebody may have mistyped, does not count,
+        nor does any later day."""
+        days = self.days()
+        past, to_come = days[days <= today], days[days > today]
+        some = (np.flatnonzero(np.bincount(to_come - today)) + today).tolist()
+        last = int(past.max()) if len(past) else None
+        for day in some:
+            if last is not None and day - max(last, today) > FAR:
+                break
+            last = day
+        return last
 
     def on_day(self, day: int) -> OnDay:
         """Returns the first and the last position of a day, and what each of them lacks or has too much."""

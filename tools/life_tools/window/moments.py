@@ -66,8 +66,8 @@ def timeline(book: View, name: str, asked: Asked) -> Timeline:
     kept = [(word, asked.text(word)) for word in KEPT.get(page, ()) if asked.text(word)]
     shown_day = asked.text(DAY_WORDS[page]) if page in DAY_WORDS else ""
     newest = book.at_position(book.copy.newest)
-    here = day_in(shown_day) or day_in(book.day or "")
-    last = day_in(newest.day or "")
+    here = day_in(shown_day) or book.last_day
+    last = newest.last_day
     first = first_day(newest)
     if here is None or last is None or first is None:
         return Timeline([], [], "", page, kept)

@@ -39,19 +39,18 @@ KEY_WORDS = {"plan": "plan", "status": "status", "issue-year": "year of issue", 
 def month(book: View, asked: Asked) -> Answer:
     """Returns the page on which a day is chosen, with its position and what can be asked of both."""
     asked.only(("at", "on", "before"))
-    on = asked.day("on", year_end_before(book.day))
+    on = asked.day("on", year_end_before(book.last_day))
     before = asked.day("before", datetime.date(max(on.year - 1, 1900), 12, 31))
     positions, opening = (book.history().on_day(number_at(day)) for day in (on, before))
-    values = {"on": on, "before": before, "positions": positions, "opening": opening, "newest_day": book.day,
+    values = {"on": on, "before": before, "positions": positions, "opening": opening,
               "measures": [(each, MEASURE_WORDS[each]) for each in MEASURES], "statement_measure": measure_on(str(on)),
               "statement_measures": list(RESERVES.items()), "bases": book.other_bases()}
     return Page("month.html", "Month and year", values)
 
 
-def year_end_before(newest: str | None) -> datetime.date:
-    """Returns the last end of a year that the postings reach."""
-    year = datetime.date.fromisoformat(newest).year - 1 if newest else datetime.date.today().year - 1
-    return datetime.date(max(year, 1900), 12, 31)
+def year_end_before(last: datetime.date | None) -> datetime.date:
+    """Returns the end of the year before the last day that has a posting, or before the present day."""
+    return datetime.date(max((last or datetime.date.today()).year - 1, 1900), 12, 31)
 
 
 # --- a report ---

@@ -11,7 +11,7 @@ from life_tools.journal.day_columns import day_at, number_at
 from life_tools.journal.records import CLAIM, MATURE
 from life_tools.reports.report_pages import money
 from life_tools.window.asked import Asked, BadRequest, shown
-from life_tools.window.figures import RECEIVED, Installments, installments, month_ends
+from life_tools.window.figures import RECEIVED, Installments, installments
 from life_tools.window.find_pages import policy_cell
 from life_tools.window.lists import A_PAGE
 from life_tools.window.parts import RIGHT, Answer, Cell, Head, Page, Table, cells
@@ -50,7 +50,7 @@ def premiums(book: View, asked: Asked) -> Answer:
 
 def due_page(book: View, asked: Asked, first: int, last: int) -> Answer:
     book.policies()
-    found = due_between(book, first, last)
+    found = installments(book, book.history(), first, last)
     order = np.lexsort((found.position, found.due))
     pages = max(-(-len(order) // A_PAGE), 1)
     page = asked.number("page", 1, pages, 1)
@@ -64,15 +64,6 @@ def due_page(book: View, asked: Asked, first: int, last: int) -> Answer:
     values = {"table": Table("Premiums due", names, rows, [total], kind="list"), "says": says, "page": page, "pages": pages,
               "turns": turns(lambda to: book.link("premiums", month=month, what="due", page=to), page, pages)}
     return Page("postings.html", f"Premiums due in {month}", values)
-
-
-def due_between(book: View, first: int, last: int) -> Installments:
-    """Returns the premiums that fell due between two days, counted as in the chart of months."""
-    history = book.history()
-    newest = int(history.latest[-1]) if len(history) else last
-    found = installments(book, history, max(min(last, month_ends(newest)[2]), first))
-    mine = np.flatnonzero((found.due >= first) & (found.due <= last))
-    return Installments(*(column[mine] for column in found))
 
 
 def due_rows(book: View, found: Installments, order: Array) -> list[list[Cell]]:
@@ -96,8 +87,12 @@ def posted_cells(book: View, places: Array) -> list[tuple[Cell, Cell, Cell, Cell
 # --- postings of a kind ---
 
 def postings(book: View, asked: Asked) -> Answer:
-    """Returns the claims or the maturities of a year."""
-    asked.only(("at", "year", "kind", "page"))
+    """Returns the claims or the maturities of a year, or all postings from a day on."""
+    asked.only(("at", "year", "kind", "since", "page"))
+    since = asked.day_or_none("since")
+    if since:
+        mine = book.history().day >= number_at(since)
+        return posting_page(book, asked, np.flatnonzero(mine) + 1, f"Postings from {since} on", {"since": since})
     kind, year = asked.one_of("kind", KINDS, "claim"), asked.number("year", FIRST_DAY.year, LAST_DAY.year, FIRST_DAY.year)
     history = book.history()
     first, last = (number_at(datetime.date(year, *each)) for each in ((1, 1), (12, 31)))
@@ -107,7 +102,7 @@ def postings(book: View, asked: Asked) -> Answer:
 
 def posting_page(book: View, asked: Asked, positions: Array, title: str, words: dict[str, object]) -> Answer:
     """Returns a page of at most fifty postings, with what each of them booked."""
-    name = "postings" if "kind" in words else "premiums"
+    name = "premiums" if "month" in words else "postings"
     pages = max(-(-len(positions) // A_PAGE), 1)
     page = asked.number("page", 1, pages, 1)
     booked, some = book.history().booked, positions[(page - 1) * A_PAGE:page * A_PAGE] - 1

@@ -13,7 +13,7 @@ from urllib.parse import urlencode
 
 from life_tools.books.lists import ListedBook
 from life_tools.common.formats import MOST_BASIS_BYTES, MOST_COMMANDS, Wrong, number_of
-from life_tools.journal.day_columns import day_at
+from life_tools.journal.day_columns import day_at, number_at
 from life_tools.journal.policy_columns import Policies
 from life_tools.journal.records import Records
 from life_tools.tables.basis import NAME
@@ -78,11 +78,17 @@ class View:
         days = self.history().days()
         return str(day_at(int(days[-1]))) if len(days) else None
 
+    @cached_property
+    def last_day(self) -> datetime.date | None:
+        """Returns the last day that has a posting up to this position, days far ahead not counted, or None."""
+        day = self.history().last_day(number_at(datetime.date.today()))
+        return None if day is None else day_at(day)
+
     @property
     def today(self) -> datetime.date:
-        """Returns the present day, or for an earlier position the day of its last posting."""
+        """Returns the present day, or for an earlier position its last day."""
         now = datetime.date.today()
-        return now if self.at == self.copy.newest or not self.day else datetime.date.fromisoformat(self.day)
+        return now if self.at == self.copy.newest else self.last_day or now
 
     @property
     def is_newest(self) -> bool:
