@@ -1,16 +1,15 @@
 """Counts how much there is to read for the main statements; the table is in docs/proof/review.md.
 
-tests/repository/promise.csv lists the clauses of the program and the definitions under them with their numbers of words, so that
+tests/repository/promise.txt lists the clauses of the program and the definitions under them with their numbers of words, so that
 one that comes to say less is noticed. `python3 -m tests.language counts --write` writes the list anew.
 """
-import csv
-import io
+from collections import defaultdict
 
 from . import specs
 from .promise import Public
 from .source import ROOT
 
-LIST = ROOT / "tests" / "repository" / "promise.csv"
+LIST = ROOT / "tests" / "repository" / "promise.txt"
 HEAD = "| what | definitions | files | lines | words |\n|---|---|---|---|---|\n"
 RESERVES = "life_app.specs.TableReserves.table_reserves"
 GIVEN = ["transcript_text.specs.Transcript.run_wording", RESERVES]
@@ -55,20 +54,23 @@ def table_of(public: Public) -> str:
 
 
 def list_of(public: Public) -> str:
-    """Returns the definitions under the program's clauses and the clauses themselves, each with its number of words, as lines
-    of CSV."""
-    made = io.StringIO()
-    rows = csv.writer(made, lineterminator="\n")
-    rows.writerow(["what", "name", "words"])
-    for key in sorted(public.promise):
-        rows.writerow(["definition", key, public.texts.definitions[key].words])
-    for one in (one for crate in ("life_app", "life_cli") for one in public.functions[crate] if not one.is_worked):
-        for number, clause in enumerate(one.clauses, 1):
-            rows.writerow([clause.side, f"{one.full} {clause.name or number}", len(clause.said.split())])
-    return made.getvalue()
+    """Returns a line for each file with definitions under the program's clauses, and for each function with such clauses: what is
+    there, each with its number of words."""
+    found: dict[str, list[str]] = defaultdict(list)
+    for one in (public.texts.definitions[key] for key in sorted(public.promise)):
+        found[one.place].append(f"{one.name} {one.words}")
+    for each in (one for crate in ("life_app", "life_cli") for one in public.functions[crate] if not one.is_worked):
+        found[each.full] += (f"{clause.side} {clause.name or number} {len(clause.said.split())}"
+                             for number, clause in enumerate(each.clauses, 1))
+    return "".join(f"{place}: {', '.join(entries)}\n" for place, entries in found.items())
+
+
+def entries(text: str) -> set[str]:
+    return {f"{place}: {entry}" for place, _, rest in (line.partition(": ") for line in text.splitlines())
+            for entry in rest.split(", ")}
 
 
 def changed(public: Public) -> list[str]:
-    """Returns the lines in which the list differs from the present definitions and clauses."""
-    known, now = LIST.read_text(encoding="utf-8").splitlines(), list_of(public).splitlines()
-    return [f"- {line}" for line in known if line not in now] + [f"+ {line}" for line in now if line not in known]
+    """Returns the entries in which the list differs from the present definitions and clauses."""
+    known, now = entries(LIST.read_text(encoding="utf-8")), entries(list_of(public))
+    return [f"- {entry}" for entry in sorted(known - now)] + [f"+ {entry}" for entry in sorted(now - known)]

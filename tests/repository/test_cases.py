@@ -153,4 +153,5 @@ def test_a_definition_that_says_less_changes_the_list() -> None:
     public = all_public()
     file, said = CRATES / "life_app/specs/Runs.antt", "  pub all : run.answered ≡ accepted_of run.history\n"
     public.texts = put(public.texts, file, said, "")
-    assert [line.split(",")[1] for line in counts.changed(public)] == ["life_app.specs.Runs.HasReturned"] * 2
+    assert [entry.rpartition(" ")[0] for entry in counts.changed(public)] == [
+        f"{sign} life_app.specs.Runs: HasReturned" for sign in "-+"]
