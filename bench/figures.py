@@ -1,10 +1,9 @@
 """Measures rows of docs/development/figures.md and prints them: what is measured, the figure, and what it is compared with.
 
-usage: python3 bench/figures.py [NAME..]   (needs rustc, cc and GNU time)
+usage: python3 bench/figures.py [NAME..]   (needs rustc, cc, hyperfine and GNU time)
 
-Without names all rows are measured, in some ten minutes. Each figure is the median of several rounds, in which the things that
-are compared run in turn. What is timed has real-time priority if the machine allows it, and the watching process has a higher
-one; started by `chrt -f 40`, both also have a higher priority than other work at real-time priority.
+Without names all rows are measured. Each figure is the median of several rounds. Started by `chrt -f 40`, what is timed has a
+higher priority than other work at real-time priority.
 
 FOLDER is on the disk on which postings are made, by default the current folder; ROUNDS is 5 by default; LIFE_PROGRAM and
 MEASURE_PROGRAM may name other programs than the proved ones.
@@ -12,14 +11,16 @@ MEASURE_PROGRAM may name other programs than the proved ones.
 import os
 import sys
 
-import figures_files
-import figures_runs
+if __name__ == "__main__":
+    ROOT = os.path.dirname(os.path.dirname(os.path.abspath(__file__)))
+    sys.path += [ROOT, os.path.join(ROOT, "tools")]
+
+import figures_program
 import figures_tools
-import figures_value
 import timing
 
 # each makes its figures known when it is imported
-MODULES = (figures_files, figures_runs, figures_tools, figures_value)
+MODULES = (figures_program, figures_tools)
 
 
 def main() -> None:
@@ -27,14 +28,12 @@ def main() -> None:
     for name in names:
         if name not in timing.FIGURES:
             sys.exit(f"no figure {name}; there are {' '.join(timing.FIGURES)}")
-    disk = os.path.realpath(os.environ.get("FOLDER", "."))
-    setting = timing.Setting(timing.proved_program(), disk, "/dev/shm" if os.path.isdir("/dev/shm") else disk,
-                             int(os.environ.get("ROUNDS", "5")))
     timing.watch()
-    print("| what | figure | beside | script |\n|---|---|---|---|")
+    print("| what | figure | compared with | script |\n|---|---|---|---|")
     for name in names:
-        for what, figure, beside in timing.FIGURES[name](setting):
-            print(f"| {what} | {figure} | {beside} | `figures.py {name}` |", flush=True)
+        for what, figure, other in timing.FIGURES[name]():
+            print(f"| {what} | {figure} | {other} | `figures.py {name}` |", flush=True)
 
 
-main()
+if __name__ == "__main__":
+    main()

@@ -1,6 +1,6 @@
 //! `life value` over a journal of issues alone, in plain Rust: the same columns by end age and the same premiums kept, the
-//! same workers, the same rows printed. It tries no rule of the journal and proves nothing; it is timed beside the
-//! program by `figures.sh workers`, to tell what the machine gives to several threads.
+//! same workers, the same rows printed. It tries no rule of the journal and proves nothing. `figures.py workers` compares the
+//! program with it, to show what the machine gives to several threads; tests take the sums of generated books from it.
 //! usage: plain_value TABLE.xml BASIS_POINTS WORKERS <journal.life >rows   (2020-12-31; seconds on standard error)
 use std::collections::HashMap;
 use std::fmt::Write as _;

@@ -1,12 +1,15 @@
-"""Times runs for the scripts of this folder: at real-time priority, with the watching process above them.
+"""Times what the figures are taken from, and makes the folders and journals over which they are taken.
 
-With a high weight alone, a thread that wakes while its processor is busy waits for the next tick of 4 ms, so that a figure also
-shows the other work. If the machine gives no real-time priority, this is reported once on standard error.
+Whole commands are timed by hyperfine, and their memory is measured by GNU time. A part of a run is timed by watching it.
+What is timed has real-time priority if the machine allows it, and the watching process has a higher one. With a high weight
+alone, a thread that wakes while its processor is busy waits for the next tick of 4 ms, so that a figure also shows other work.
 """
 from __future__ import annotations
 
+import functools
+import json
 import os
-import resource
+import shlex
 import shutil
 import signal
 import statistics
@@ -14,40 +17,30 @@ import subprocess
 import sys
 import tempfile
 import time
-from collections.abc import Callable, Iterator, Mapping, Sequence
+from collections.abc import Callable, Iterable, Iterator, Mapping, Sequence
+from pathlib import Path
 from typing import Any, NamedTuple, TypeVar
 
-import workload
+from life_tools.common.arrays import Array, np
+from life_tools.journal.file import EMPTY, FIRST_GATE, RECORD_SIZE
+from life_tools.journal.records import ISSUE, PREMIUM, RECORD
+from life_tools.rules.tables import PLAN_CODES
 
-# a script that was started at a real-time priority of its own times at that priority, if other work has the lowest one
+ROOT = Path(__file__).resolve().parent.parent
+# a process that was started at a real-time priority of its own times at that priority, if other work has the lowest one
 TIMED = max(os.sched_getparam(0).sched_priority, 1)
-WATCHER = TIMED + 1
-FIRST_MARK, LAST_MARK = 4294967294, 4294967295
-ROOT = os.path.dirname(os.path.dirname(os.path.abspath(__file__)))
+# where postings are made, and where nothing waits for a disk
+DISK = os.path.realpath(os.environ.get("FOLDER", "."))
+MEMORY = "/dev/shm" if os.path.isdir("/dev/shm") else DISK
+ROUNDS = int(os.environ.get("ROUNDS", "5"))
+MILLION, LONGEST = 1_000_000, 16 * 1024 * 1024
+LAST_NUMBER = 4294967295
+FIRST_DAY, DAY = 10957, 18262
 
 Value = TypeVar("Value")
-# a row of the table: what is measured, the figure, and what it is compared with
+# what is measured, the figure, and what it is compared with
 Row = tuple[str, str, str]
-
-
-class Run(NamedTuple):
-    """The seconds by the clock, the seconds of the processors, and the most memory in MiB."""
-
-    clock: float
-    used: float
-    peak: float
-
-
-class Setting(NamedTuple):
-    """The program, a folder on a real disk, a folder in memory if there is one, and the number of rounds."""
-
-    program: str
-    disk: str
-    memory: str
-    rounds: int
-
-
-Figure = Callable[[Setting], Iterator[Row]]
+Figure = Callable[[], Iterator[Row]]
 FIGURES: dict[str, Figure] = {}
 
 
@@ -57,110 +50,110 @@ def figure(make: Figure) -> Figure:
     return make
 
 
-def set_priority(level: int) -> None:
-    os.sched_setscheduler(0, os.SCHED_FIFO, os.sched_param(level))
+class Run(NamedTuple):
+    """The median seconds by the clock, the mean seconds of the processors, and the median of the most memory in MiB."""
+
+    clock: float
+    used: float
+    peak: float
+
+    def __str__(self) -> str:
+        return f"{self.clock:.2f} s, {self.peak:.0f} MiB"
+
+
+@functools.cache
+def life() -> str:
+    """Returns the program that is measured: LIFE_PROGRAM, or the proved one, which is proved and built first."""
+    if "LIFE_PROGRAM" not in os.environ:
+        subprocess.run(["sh", ROOT / "life", "prove"], check=True)
+    return os.path.realpath(os.environ.get("LIFE_PROGRAM", ROOT / "crates" / "life_cli" / "out" / "life_cli"))
 
 
 def watch() -> None:
-    """Gives this process a higher priority than the processes that it will time; without the right to do so nothing has
-    real-time priority."""
+    """Gives this process a higher priority than the processes that it times."""
     # if it is ended from outside, it removes its folders, too
     signal.signal(signal.SIGTERM, lambda *_: sys.exit(143))
     try:
-        set_priority(WATCHER)
+        os.sched_setscheduler(0, os.SCHED_FIFO, os.sched_param(TIMED + 1))
     except PermissionError:
-        print("without real-time priority: figures tell of the machine's other work, too", file=sys.stderr)
+        print("without real-time priority: the figures also show the machine's other work", file=sys.stderr)
 
 
 def below_watcher() -> None:
-    """Sets the priority of a new process, before its program starts."""
     if os.sched_getscheduler(0) == os.SCHED_FIFO:
-        set_priority(TIMED)
+        os.sched_setscheduler(0, os.SCHED_FIFO, os.sched_param(TIMED))
 
 
-def start_to(words: list[str], folder: str, given: Any, out: Any, told: Any = None) -> subprocess.Popen[bytes]:
-    return subprocess.Popen(words, stdin=given, stdout=out, stderr=told, cwd=folder, preexec_fn=below_watcher)
+def median(values: Iterable[float]) -> float:
+    return float(statistics.median(values))
 
 
-def start(words: list[str], folder: str, script: str = os.devnull, written: str = os.devnull,
-          told: Any = None) -> subprocess.Popen[bytes]:
-    with open(script, "rb") as given, open(written, "wb") as out:
-        return start_to(words, folder, given, out, told)
-
-
-def need_right(status: int, words: list[str]) -> None:
-    if status != 0:
-        sys.exit(f"wrong: status {status} of {' '.join(words)}")
-
-
-def timed(words: list[str], folder: str, script: str = os.devnull, written: str = os.devnull,
-          statuses: Sequence[int] = (0,)) -> Run:
-    before, begun = resource.getrusage(resource.RUSAGE_CHILDREN), time.perf_counter()
-    run = start(["/usr/bin/time", "-q", "-f", "%M", *words], folder, script, written, subprocess.PIPE)
-    told = run.communicate()[1]
-    clock, after = time.perf_counter() - begun, resource.getrusage(resource.RUSAGE_CHILDREN)
-    if run.returncode not in statuses:
-        need_right(run.returncode, words)
-    used = after.ru_utime + after.ru_stime - before.ru_utime - before.ru_stime
-    return Run(clock, used, int(told.split()[-1]) / 1024)
-
-
-def in_turn(rounds: int, ways: Mapping[Any, Callable[..., Value]]) -> dict[Any, list[Value]]:
-    """Returns the results of each way in this number of rounds; every other round goes from the last way to the first."""
-    found: dict[Any, list[Value]] = {name: [] for name in ways}
+def in_turn(rounds: int, ways: Mapping[Any, Callable[[], float]]) -> dict[Any, float]:
+    """Returns the median of each way in this number of rounds; every other round goes from the last way to the first."""
+    found: dict[Any, list[float]] = {name: [] for name in ways}
     for number in range(rounds):
-        for name in list(ways) if number % 2 == 0 else list(ways)[::-1]:
+        for name in list(ways)[::1 if number % 2 == 0 else -1]:
             found[name].append(ways[name]())
-    return found
+    return {name: median(values) for name, values in found.items()}
 
 
-def median(values: Sequence[Any], part: str | None = None) -> float:
-    return float(statistics.median(values if part is None else [getattr(each, part) for each in values]))
+# --- journals ---
+
+def records(count: int, **fields: Any) -> Array:
+    made = np.zeros(count, RECORD)
+    for name, value in {"gate": 1, **fields}.items():
+        made[name] = value
+    return made
 
 
-def told(runs: Sequence[Run]) -> str:
-    return f"{median(runs, 'clock'):.2f} s, {median(runs, 'peak'):.0f} MiB"
+def journal_of(some: Array) -> bytes:
+    # numpy joins records in the byte order of the machine
+    return bytes(EMPTY[:FIRST_GATE] + some.astype(RECORD).tobytes() + b"\0")
 
 
-def proved_program() -> str:
-    """Returns the program that is measured: LIFE_PROGRAM, or the proved one, which is proved and built first."""
-    if "LIFE_PROGRAM" not in os.environ:
-        subprocess.run(["sh", os.path.join(ROOT, "life"), "prove"], check=True)
-    return os.path.realpath(os.environ.get("LIFE_PROGRAM", os.path.join(ROOT, "crates", "life_cli", "out", "life_cli")))
+def alike(numbers: Array) -> Array:
+    """Returns issues that differ only in their numbers."""
+    return records(len(numbers), kind=ISSUE, plan=PLAN_CODES["endowment"], years=3, number=numbers, day=DAY, amount=100000,
+                   premium=40000)
 
 
-def build_plain(name: str, folder: str) -> str:
-    """Builds a plain program of this folder, in Rust or C, for comparison with `life`."""
-    built = os.path.join(folder, name)
-    rust = os.path.join(ROOT, "bench", name + ".rs")
-    if os.path.exists(rust):
-        subprocess.run(["rustc", "-O", "--edition", "2024", "-o", built, rust], check=True)
-    else:
-        subprocess.run(["cc", "-O2", "-o", built, os.path.join(ROOT, "bench", name + ".c")], check=True)
-    return built
+def drawn(count: int) -> Array:
+    """Returns issues with consecutive numbers, in the ranges in which `life generate` draws."""
+    draw = np.random.default_rng(1)
+    plan, units = draw.integers(1, 5, count), draw.integers(1, 1001, count)
+    return records(count, kind=ISSUE, plan=plan, age=draw.integers(20, 80, count), number=np.arange(1, count + 1),
+                   years=np.where(plan == PLAN_CODES["whole"], 0, draw.integers(2, 22, count)),
+                   day=FIRST_DAY + draw.integers(0, 3650, count), amount=units * 100000, premium=units * 2000)
 
 
-def measure_program() -> str:
-    """Returns the program `measure`, which runs single functions of the crates again and again."""
-    given = os.environ.get("MEASURE_PROGRAM")
-    if given:
-        return given
-    folder = os.path.join(ROOT, "crates", "measure")
-    subprocess.run(["rt", "run", "--", "turns", "1", "1"], cwd=folder, check=True, stdout=subprocess.DEVNULL)
-    return os.path.join(folder, "out", "measure")
+def paid(policies: int) -> Array:
+    """Returns issues, and then the premiums of three years."""
+    numbers = np.arange(1, policies + 1)
+    issues = records(policies, kind=ISSUE, plan=PLAN_CODES["endowment"], age=30, years=20, number=numbers, day=DAY,
+                     amount=100000 + numbers, premium=40000)
+    return np.concatenate([issues, *(records(policies, kind=PREMIUM, number=numbers, day=day, amount=40000)
+                                     for day in (DAY, DAY + 366, DAY + 366 + 365))])
+
+
+def issue_lines(lanes: Sequence[int], numbers: Iterable[int], rest: str = "endowment,30,20,1000.00,40.00") -> list[str]:
+    """Returns lines that issue policies of these numbers, dealt to the lanes in turn."""
+    return [f"{lanes[n % len(lanes)]},issue,{number},2020-01-01,{rest}" for n, number in enumerate(numbers)]
 
 
 class Folder:
-    """A new folder with table G and a basis at 4 percent."""
+    """A new folder with table G, a basis at 4 percent, and a journal of these records."""
 
-    def __init__(self, parent: str) -> None:
-        self.path = tempfile.mkdtemp(prefix="figures.", dir=parent)
-        shutil.copy(os.path.join(ROOT, "examples", "g.xml"), self.path)
-        workload.write_lines(self.at("basis.csv"), ["1900-01-01,g.xml,400"])
-        self.journal = self.at("journal.life")
+    def __init__(self, parent: str, some: Array | None = None) -> None:
+        self.path, self.marks = Path(tempfile.mkdtemp(prefix="figures.", dir=parent)), 0
+        self.journal = self.path / "journal.life"
+        shutil.copy(ROOT / "examples" / "g.xml", self.path)
+        self.write("basis.csv", ["1900-01-01,g.xml,400"])
+        if some is not None:
+            self.journal.write_bytes(journal_of(some))
+        os.sync()
 
-    def at(self, name: str) -> str:
-        return os.path.join(self.path, name)
+    def write(self, name: str, lines: Iterable[str]) -> None:
+        (self.path / name).write_text("".join(f"{line}\n" for line in lines), encoding="ascii")
 
     def __enter__(self) -> Folder:
         return self
@@ -168,83 +161,88 @@ class Folder:
     def __exit__(self, *_: object) -> None:
         shutil.rmtree(self.path)
 
+    def plain(self, name: str) -> str:
+        """Builds a plain program of bench/, in Rust or C, for comparison with `life`."""
+        source = next((ROOT / "bench").glob(f"{name}.*"))
+        words = ["rustc", "-O", "--edition", "2024"] if source.suffix == ".rs" else ["cc", "-O2"]
+        subprocess.run([*words, "-o", self.path / name, source], check=True)
+        return str(self.path / name)
 
-def size_of(path: str) -> int:
-    try:
-        return os.path.getsize(path)
-    except OSError:
-        return 0
+    def count(self) -> int:
+        """Returns the number of records in the journal."""
+        return (self.journal.stat().st_size - FIRST_GATE - 1) // RECORD_SIZE if self.journal.exists() else 0
 
+    def whole(self, commands: Mapping[str, Sequence[str]], given: str = os.devnull, prepare: str = "true", runs: int = ROUNDS,
+              statuses: Sequence[int] = (0,)) -> dict[str, Run]:
+        """Times whole commands here, which read this file; `prepare` is run before each."""
+        words = ["hyperfine", "--shell=none", "--style=none", "--ignore-failure", "--runs", str(runs), "--export-json", "times",
+                 "--prepare", prepare]
+        for place, command in enumerate(commands.values()):
+            words.append(shlex.join(["/usr/bin/time", "-q", "-a", "-o", f"memory{place}", "-f", "%M", "sh", "-c",
+                                     f'exec "$@" <{given}', "sh", *command]))
+        subprocess.run(words, cwd=self.path, check=True, stdout=subprocess.DEVNULL, preexec_fn=below_watcher)
+        found = {}
+        for place, (name, told) in enumerate(zip(commands, json.loads((self.path / "times").read_text())["results"])):
+            if not set(told["exit_codes"]) <= set(statuses):
+                sys.exit(f"wrong: status {told['exit_codes']} of {' '.join(commands[name])}")
+            memory = (self.path / f"memory{place}")
+            found[name] = Run(told["median"], told["user"] + told["system"], median(map(int, memory.read_text().split())) / 1024)
+            memory.unlink()
+        return found
 
-def mark(lane: int, number: int) -> list[str]:
-    return [f"{lane},issue,{number},2020-01-01,endowment,30,20,1000.00,40.00"]
+    def start(self, words: Sequence[str], given: str = os.devnull, **streams: Any) -> subprocess.Popen[bytes]:
+        with open(self.path / given, "rb") as file:
+            return subprocess.Popen(words, stdin=file, cwd=self.path, preexec_fn=below_watcher, bufsize=0, **streams)
 
-
-def marked(lane: int, lines: list[str]) -> list[str]:
-    """Returns the lines between two postings, whose times show when the lines ran."""
-    return mark(lane, FIRST_MARK) + lines + mark(lane, LAST_MARK)
-
-
-class Watched:
-    """One run of a script: when the journal grew, when the marks were in it, and how long the whole run took."""
-
-    def __init__(self, program: str, folder: Folder, lines: list[str]) -> None:
-        script = folder.at("script.csv")
-        workload.write_lines(script, lines)
-        self.grown: list[tuple[float, int]] = []
-        self.marks: dict[int, float] = {}
-        seen, begun = size_of(folder.journal), time.perf_counter()
-        run = start([program, "run"], folder.path, script)
-        while run.poll() is None:
-            seen = self.look(folder.journal, seen)
+    def watched(self, lines: list[str], marks: Iterable[int] = ()) -> tuple[list[tuple[float, int]], list[float]]:
+        """Runs a script. Returns when the journal had which number of records, and when it had the issue of each mark."""
+        self.write("script.csv", lines)
+        seen, grown, found = self.count(), list[tuple[float, int]](), dict[int, float]()
+        run = self.start([life(), "run"], "script.csv", stdout=subprocess.DEVNULL)
+        is_over = False
+        while not is_over:
+            # after its end it is looked at once more
+            is_over = run.poll() is not None
+            count, now = self.count(), time.perf_counter()
+            if count > seen:
+                with open(self.journal, "rb") as file:
+                    file.seek(FIRST_GATE + RECORD_SIZE * seen)
+                    new = file.read(RECORD_SIZE * (count - seen))
+                for mark in marks:
+                    if mark.to_bytes(4, "big") in new:
+                        found.setdefault(mark, now)
+                grown.append((now, count))
+                seen = count
             time.sleep(0.0002)
-        self.seconds = time.perf_counter() - begun
-        self.look(folder.journal, seen)
-        need_right(run.returncode, [program, "run"])
+        need_right(run)
+        return grown, [found[mark] for mark in marks]
 
-    def look(self, path: str, seen: int) -> int:
-        size = size_of(path)
-        if size <= seen:
-            return seen
-        now = time.perf_counter()
-        with open(path, "rb") as file:
-            file.seek(seen)
-            new = file.read(size - seen)
-        # the new part begins with a body; its commit byte was there before
-        for number in (FIRST_MARK, LAST_MARK):
-            if b"\x1e\x14" + number.to_bytes(4, "big") in new:
-                self.marks.setdefault(number, now)
-        self.grown.append((now, (size - 18) // 65))
-        return size
+    def between_marks(self, lines: list[str], others: Sequence[str] = ()) -> float:
+        """Returns the seconds in which lane 1 runs these lines, measured between two postings of it; other lanes run others."""
+        self.marks += 2
+        marks = [LAST_NUMBER - self.marks, LAST_NUMBER - self.marks + 1]
+        first, last = issue_lines([1], marks)
+        _, (begun, ended) = self.watched([first, *lines, last, *others], marks)
+        return ended - begun
 
-    def postings_a_second(self) -> float:
-        (begun, first), (end, last) = self.grown[0], self.grown[-1]
-        return (last - first) / max(end - begun, 0.001)
-
-    def between_marks(self) -> float:
-        return self.marks[LAST_MARK] - self.marks[FIRST_MARK]
-
-
-def counted_bytes(process: int) -> tuple[int, int]:
-    """Returns how many bytes a process has read and written so far."""
-    with open(f"/proc/{process}/io", encoding="ascii") as file:
-        told = dict(line.split(": ") for line in file)
-    return int(told["rchar"]), int(told["wchar"])
+    def from_last_read_to_first_write(self, *words: str) -> float:
+        """Returns the seconds in which a command neither reads nor writes: a valuation with its text, or a projection."""
+        run = self.start([life(), *words], stdout=subprocess.DEVNULL)
+        read, wrote, last_read = 0, 0, time.perf_counter()
+        while run.poll() is None and not wrote:
+            try:
+                told = dict(line.split(": ") for line in Path(f"/proc/{run.pid}/io").read_text(encoding="ascii").splitlines())
+                now, wrote = int(told["rchar"]), int(told["wchar"])
+            except (OSError, ValueError, KeyError):
+                break
+            if now != read:
+                read, last_read = now, time.perf_counter()
+            time.sleep(0.0001)
+        seconds = time.perf_counter() - last_read
+        need_right(run)
+        return seconds
 
 
-def from_last_read_to_first_write(words: list[str], folder: str) -> float:
-    """Returns the seconds in which a run neither reads nor writes: a valuation with the making of its text, or a projection."""
-    run = start(words, folder)
-    read, wrote, last_read = 0, 0, time.perf_counter()
-    while run.poll() is None and not wrote:
-        try:
-            now, wrote = counted_bytes(run.pid)
-        except (OSError, ValueError, KeyError):
-            break
-        if now != read:
-            read, last_read = now, time.perf_counter()
-        time.sleep(0.0001)
-    seconds = time.perf_counter() - last_read
-    run.wait()
-    need_right(run.returncode, words)
-    return seconds
+def need_right(run: subprocess.Popen[bytes]) -> None:
+    if run.wait() != 0:
+        sys.exit(f"wrong: status {run.returncode} of {run.args!r}")

@@ -149,7 +149,7 @@ def test_all_issue_ages(table_q: Folder) -> None:
 @pytest.mark.timeout(600)
 def test_a_load_of_100_000_policies(examples_basis: Folder) -> None:
     """The run syncs some hundred thousand times, so it runs in memory; a program in plain Rust computes the same sums
-    (bench/plain_reserves.rs)."""
+    (bench/plain_value.rs)."""
     with in_memory(examples_basis.path) as quick:
         folder = Folder(quick, examples_basis.program)
         folder.take("basis.csv", "q.xml", "g.xml")

@@ -44,7 +44,7 @@ def test_a_load_over_its_own_journal(examples_basis: Folder) -> None:
 
 
 def test_a_load_of_a_thousand_policies(examples_basis: Folder) -> None:
-    """The sums are those of a program in plain Rust by table G at 4 percent (bench/plain_reserves.rs)."""
+    """The sums are those of a program in plain Rust by table G at 4 percent (bench/plain_value.rs)."""
     assert told(examples_basis, "load", "1", "1000", "8", "4") == (0, "load,2000,0,1000,248958515.21,248958521.95,0\n")
 
 

@@ -39,7 +39,7 @@ def test_readers(tmp_path: Path) -> None:
 
 
 @pytest.mark.parametrize("words, line", [
-    # the sums of a program in plain Rust (bench/plain_reserves.rs), and sums that enclosed those of exact fractions
+    # the sums of a program in plain Rust (bench/plain_value.rs), and sums that enclosed those of exact fractions
     ("reserves 1 1000", "reserves,1000,0,24895851521,24895852195"),
     ("projections 1 1000 40", "projections,1000,0,33280649834,33280649923"),
     ("turns 1 1000", "turns,1,1000"), ("turns 32 100", "turns,32,3200"), ("sleeping 8 80", "sleeping,8,80"),

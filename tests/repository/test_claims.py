@@ -84,19 +84,13 @@ def test_no_page_has_another_limit_of_a_script_or_a_file(page: str) -> None:
 
 
 def test_what_takes_a_figure_again_is_there() -> None:
-    text = FIGURES.read_text(encoding="utf-8")
+    """Each figure of the page that names its measurement is measured by bench/, and bench/ measures nothing else."""
+    files = [file for file in (ROOT / "bench").iterdir() if file.is_file()]
+    text, code = FIGURES.read_text(encoding="utf-8"), "".join(file.read_text(encoding="utf-8") for file in files)
     taken = set(re.findall(r"`figures\.py ([a-z]+)`", text))
-    known = {name for file in (ROOT / "bench").glob("figures_*.py")
-             for name in re.findall(r"^@figure\ndef (\w+)\(", file.read_text(encoding="utf-8"), re.M)}
-    scripts = set(re.findall(r"`((?:measure|worst|plain|figures)_?\w*\.\w+)", text))
+    known = set(re.findall(r"^@figure\ndef (\w+)\(", code, re.M))
     assert taken == known, taken ^ known
-    assert scripts and [name for name in scripts if not (ROOT / "bench" / name).exists()] == []
-
-
-def test_each_script_of_bench_takes_a_figure_of_the_page() -> None:
-    """A script that doesn't measure a figure itself must be a part of one that does."""
-    text = FIGURES.read_text(encoding="utf-8")
-    shared = {"timing.py", "workload.py"}
-    alone = [file for file in (ROOT / "bench").iterdir() if file.is_file() and not file.name.startswith(("figures", "plain_"))
-             and file.name not in shared and f"{file.stem}." not in text]
-    assert alone == []
+    named = {name for name in re.findall(r"`((?:plain|measure|worst)_\w*\.\w+)", text)}
+    assert named <= {file.name for file in files}
+    used = {"figures.py", "timing.py", *re.findall(r"^import (\w+)$", code, re.M)}
+    assert [file.name for file in files if not (f'plain("{file.stem}")' in code or {file.name, file.stem} & used)] == []
