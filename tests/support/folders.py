@@ -8,12 +8,12 @@ import shlex
 import shutil
 import subprocess
 from contextlib import contextmanager
-from dataclasses import dataclass
+from dataclasses import dataclass, field
 from pathlib import Path
-from typing import BinaryIO, Iterator
+from typing import BinaryIO, Callable, Iterator
 
 from tests.support.program import ROOT, Program
-from tests.support.tools import Ended, run_tool
+from tests.support.tools import Ended, nothing, run_tool
 
 EXAMPLES = ROOT / "examples"
 # the most lines of a refusal, unless it shows a usage
@@ -24,10 +24,11 @@ REFUSAL = re.compile(r"(usage|bad(script|basis|journal),.*)\n")
 
 @dataclass
 class Folder:
-    """A folder, empty at first, and the program under test."""
+    """A folder, empty at first; the program under test; and what the process of a tool does first, see `run_tool`."""
 
     path: Path
     program: Program
+    first: Callable[[], object] = field(default=nothing, repr=False)
 
     @property
     def journal(self) -> Path:
@@ -90,7 +91,7 @@ class Folder:
     def tools(self, *words: str, given: str | bytes = b"", program: Path | None = None) -> Ended:
         """Runs a command of life-tools with its arguments, over the program under test or over another one."""
         given = given.encode() if isinstance(given, str) else given
-        return run_tool(words, self.path, {"LIFE_PROGRAM": str(program or self.program.path)}, given)
+        return run_tool(words, self.path, {"LIFE_PROGRAM": str(program or self.program.path)}, given, self.first)
 
     def printed(self, *words: str, given: str | bytes = b"", status: int = 0) -> str:
         """Runs a tool, asserts that it ends with this status and without a traceback, and returns its output."""

@@ -18,10 +18,13 @@ from dataclasses import dataclass, field
 from pathlib import Path
 from typing import Any, Callable, Sequence
 
+from life_tools.cli import backup, day
 from life_tools.cli.entry import main
 from tests.support.desks import TODAY, Desk
 from tests.support.program import ROOT
 
+# these are imported before any tool is killed, so that the calls which are counted are the tool's own
+TOOLS = (backup, day)
 # the audit events before which a `day` may be killed
 CALLS = ("open", "os.rename", "os.mkdir", "os.remove", "os.rmdir", "subprocess.Popen", "os.listdir", "os.scandir", "fcntl.flock",
          "trial.fsync")

@@ -1,12 +1,12 @@
 """Tests a tool whose output can't be written, or that meets an unexpected error: it prints one line and ends with 2, without a
 traceback."""
 import errno
-import fcntl
 import os
 import pty
 import re
 import subprocess
 import sys
+from functools import partial
 from pathlib import Path
 
 import pytest
@@ -68,38 +68,35 @@ def test_bytes_pass_whatever_the_locale(office: Folder, locale: str) -> None:
     assert ended in (0, 1) and "foreseen" not in said, (ended, said)
 
 
-def test_no_lock_is_to_be_had(office: Folder, monkeypatch: pytest.MonkeyPatch) -> None:
-    def refuse(*_: object) -> None:
-        raise OSError(errno.ENOLCK, os.strerror(errno.ENOLCK))
-
-    monkeypatch.setattr(fcntl, "flock", refuse)
-    office.refused("at", "3", "state", says="No locks available")
-
-
-def test_what_nobody_foresaw(office: Folder, monkeypatch: pytest.MonkeyPatch, tmp_path: Path) -> None:
-    """The tool prints one line and ends with 2; the traceback is in a file whose path is printed."""
-    from life_tools.cli import verify
-
+# what fails in the tool, in place of a function of its own
+def fails_with(where: str, error: Exception) -> None:
     def fail(*_: object) -> None:
-        raise KeyError("unheard of")
+        raise error
 
-    monkeypatch.setattr(verify, "shape_with", fail)
+    pytest.MonkeyPatch().setattr(where, fail)
+
+
+SHAPE = "life_tools.cli.verify.shape_with"
+
+
+@pytest.mark.parametrize(("where", "error", "words", "says"), [
+    ("fcntl.flock", OSError(errno.ENOLCK, os.strerror(errno.ENOLCK)), "at 3 state", "No locks available"),
+    (SHAPE, BrokenPipeError(errno.EPIPE, os.strerror(errno.EPIPE)), "verify", "life-tools verify: Broken pipe"),
+], ids=["no lock is to be had", "another pipe breaks, whose reader isn't that of the output"])
+def test_an_error_of_the_system(office: Folder, where: str, error: Exception, words: str, says: str) -> None:
+    office.first = partial(fails_with, where, error)
+    office.refused(*words.split(), says=says)
+
+
+def test_what_nobody_foresaw(office: Folder) -> None:
+    """The tool prints one line and ends with 2; the traceback is in a file whose path is printed."""
+    office.first = partial(fails_with, SHAPE, KeyError("unheard of"))
     ended = office.tools("verify")
     assert ended.status == 2 and ended.out == "" and len(ended.err.splitlines()) == 1, ended
     found = re.search(r"its traceback is in (\S+)", ended.err)
     assert found and "KeyError" in ended.err
     assert "in fail" in Path(found[1]).read_text(encoding="utf-8")
     os.remove(found[1])
-
-
-def test_another_pipe_that_breaks_is_no_reader_that_has_left(office: Folder, monkeypatch: pytest.MonkeyPatch) -> None:
-    from life_tools.cli import verify
-
-    def fail(*_: object) -> None:
-        raise BrokenPipeError(errno.EPIPE, os.strerror(errno.EPIPE))
-
-    monkeypatch.setattr(verify, "shape_with", fail)
-    office.refused("verify", says="life-tools verify: Broken pipe")
 
 
 def test_help_is_asked_for_in_each_way(office: Folder) -> None:

@@ -6,8 +6,9 @@ import shutil
 import subprocess
 import tempfile
 import time
+from functools import partial
 from pathlib import Path
-from typing import Iterator
+from typing import Callable, Iterator
 
 import pytest
 
@@ -17,6 +18,7 @@ from life_tools.desk.records import at_moment
 from tests.support.desks import Desk
 from tests.support.folders import Folder
 from tests.support.missing import lacks
+from tests.support.tools import nothing
 
 ISSUE = "1,issue,{},2024-05-01,whole,40,0,1000.00,40.00\n"
 
@@ -29,10 +31,41 @@ def desk(folder: Folder) -> Desk:
     return desk
 
 
-@pytest.fixture
-def unseen(monkeypatch: pytest.MonkeyPatch) -> None:
+# --- what a `day` does otherwise than usual, before it begins ---
+
+def see_no_writer() -> None:
     """Makes `day` not see who has a file open, which the system reports only for the caller's own files."""
-    monkeypatch.setattr(claiming, "is_being_written", lambda path: False)
+    setattr(claiming, "is_being_written", lambda path: False)
+
+
+def be_called(name: str) -> None:
+    setattr(claiming, "login", lambda: name)
+
+
+def replace_after_the_check(file: Path, by: Path) -> None:
+    """Makes a file be replaced by another one between the check of its time and its claim."""
+    checked = claiming.demand_ready
+
+    def replaced(path: str, folder: str) -> os.stat_result:
+        found = checked(path, folder)
+        os.rename(by, file)
+        return found
+
+    setattr(claiming, "demand_ready", replaced)
+
+
+def fail_to_copy() -> None:
+    setattr(shutil, "copyfile", lambda *_: os.stat("/nowhere"))
+
+
+def fail_after_the_copy() -> None:
+    copied = claiming.copy_safely
+
+    def cut(source: str, entry: Entry) -> None:
+        copied(source, entry)
+        raise OSError(errno.EIO, "interrupted", source)
+
+    setattr(claiming, "copy_safely", cut)
 
 
 def posted(desk: Desk) -> list[str]:
@@ -72,35 +105,29 @@ def test_a_user_without_a_name_has_a_number(monkeypatch: pytest.MonkeyPatch) -> 
     assert claiming.login() == "54321"
 
 
-def test_who_posts_the_rest_of_anothers_day_is_named(desk: Desk, monkeypatch: pytest.MonkeyPatch) -> None:
+def test_who_posts_the_rest_of_anothers_day_is_named(desk: Desk) -> None:
     """The log once named whoever had claimed the file."""
     desk.folder.stand_in("cat >/dev/null\nexit 8")
     desk.hand_in("a.csv", ISSUE.format(2))
     for name in ("anna", "berta"):
-        monkeypatch.setattr(claiming, "login", lambda name=name: name)
+        desk.folder.first = partial(be_called, name)
         desk.day(*(["--life", "stand-in"] if name == "anna" else []), status=1)
     assert desk.log()[1]["posted_by"] == "berta" and desk.log("--by", "anna") == desk.log("--by", "berta") == desk.log()[1:]
 
 
-def test_a_file_that_is_replaced_before_its_claim_has_its_own_time(desk: Desk, monkeypatch: pytest.MonkeyPatch) -> None:
-    file = desk.hand_in("a.csv", ISSUE.format(2))
-    looked_at = claiming.demand_ready
-
-    def replaced(path: str, folder: str) -> os.stat_result:
-        found = looked_at(path, folder)
-        os.utime(desk.hand_in("b.csv", ISSUE.format(3)), (1e9, 1e9))
-        os.rename(file.with_name("b.csv"), file)
-        return found
-
-    monkeypatch.setattr(claiming, "demand_ready", replaced)
+def test_a_file_that_is_replaced_before_its_claim_has_its_own_time(desk: Desk) -> None:
+    file, other = desk.hand_in("a.csv", ISSUE.format(2)), desk.hand_in("b.part", ISSUE.format(3))
+    os.utime(other, (1e9, 1e9))
+    desk.folder.first = partial(replace_after_the_check, file, other)
     desk.day(status=1)
     assert posted(desk) == ["1", "3"] and desk.entry(2)["file"]["modified"] == at_moment(1e9)
 
 
 # --- writers that go on ---
 
-def test_what_is_written_after_a_day_has_ended_is_taken_by_the_next(desk: Desk, unseen: None) -> None:
+def test_what_is_written_after_a_day_has_ended_is_taken_by_the_next(desk: Desk) -> None:
     """A clerk's program wrote a second row after a pause of ten seconds, and once no `day` and no log reported it."""
+    desk.folder.first = see_no_writer
     file = desk.hand_in("slow.csv", ISSUE.format(2))
     with open(file, "a", encoding="ascii") as late:
         os.utime(file, (1e9, 1e9))
@@ -114,8 +141,25 @@ def test_what_is_written_after_a_day_has_ended_is_taken_by_the_next(desk: Desk, 
     assert posted(desk) == ["1", "2", "3", "4"] and desk.day().err == "" and desk.day("--status").err == ""
 
 
-def test_what_is_added_is_taken_once_where_that_was_interrupted(desk: Desk, unseen: None) -> None:
+def test_what_is_added_to_a_claimed_file_is_an_entry_of_its_own(desk: Desk, monkeypatch: pytest.MonkeyPatch) -> None:
+    """The system may be unable to say whether a file is still open, such as on a network."""
+    monkeypatch.setattr(claiming, "is_being_written", lambda path: False)
+    desk.folder.first = see_no_writer
+    file = desk.hand_in("late.csv", "1,claim,1,2024-05-20\n")
+    with open(file, "a", encoding="ascii") as late:
+        os.utime(file, (1e9, 1e9))
+        entry = claiming.claimed(str(file), str(desk.folder.path), Log(str(desk.folder.path)))
+        late.write("1,settle,1,2024-05-21,1.00\n")
+    ended = desk.day(status=1)
+    assert f"{file} was written to after it was claimed: what was added is log/000003" in ended.err
+    assert len(desk.entry(entry.number)["accepted"]) == 1 and len(desk.entry(3)["accepted"]) == 1
+    assert (desk.entry_folder(3) / "handed-in.csv").read_text() == "1,settle,1,2024-05-21,1.00\n"
+    assert desk.day().err == ""
+
+
+def test_what_is_added_is_taken_once_where_that_was_interrupted(desk: Desk) -> None:
     """The entry of the added rows is on the disk, but the entry that they come from doesn't name it yet."""
+    desk.folder.first = see_no_writer
     file = desk.hand_in("slow.csv", ISSUE.format(2))
     with open(file, "a", encoding="ascii") as late:
         os.utime(file, (1e9, 1e9))
@@ -205,13 +249,18 @@ def memory(desk: Desk) -> Iterator[Path]:
         yield inbox
 
 
-def test_a_claim_whose_inbox_is_away_waits_for_it(desk: Desk, memory: Path, monkeypatch: pytest.MonkeyPatch) -> None:
+def demand_not_read(desk: Desk, first: Callable[[], None]) -> None:
+    """Hands a file in, and asserts that a `day` that does this first reports that the file could not be read."""
+    desk.hand_in("a.csv", ISSUE.format(2))
+    desk.folder.first = first
+    assert "could not be read" in desk.day(status=1).err
+    desk.folder.first = nothing
+
+
+def test_a_claim_whose_inbox_is_away_waits_for_it(desk: Desk, memory: Path) -> None:
     """The file has its hidden name, and its disk isn't mounted when the next `day` looks. Once the entry was removed, and the
     file stayed in the inbox, unseen for ever."""
-    with monkeypatch.context() as patched:
-        patched.setattr(shutil, "copyfile", lambda *_: os.stat("/nowhere"))
-        desk.hand_in("a.csv", ISSUE.format(2))
-        assert "could not be read" in desk.day(status=1).err
+    demand_not_read(desk, fail_to_copy)
     memory.rename(memory.with_name("away"))
     memory.mkdir()
     for _ in range(2):
@@ -222,18 +271,9 @@ def test_a_claim_whose_inbox_is_away_waits_for_it(desk: Desk, memory: Path, monk
     assert posted(desk) == ["1", "2"] and os.listdir(memory) == []
 
 
-def test_a_copied_file_leaves_its_inbox_after_an_interruption(desk: Desk, memory: Path, monkeypatch: pytest.MonkeyPatch) -> None:
+def test_a_copied_file_leaves_its_inbox_after_an_interruption(desk: Desk, memory: Path) -> None:
     """The copy is whole, and the hidden file is still there. Once it stayed in the inbox for ever."""
-    copied = claiming.copy_safely
-
-    def cut(source: str, entry: Entry) -> None:
-        copied(source, entry)
-        raise OSError(errno.EIO, "interrupted", source)
-
-    with monkeypatch.context() as patched:
-        patched.setattr(claiming, "copy_safely", cut)
-        desk.hand_in("a.csv", ISSUE.format(2))
-        assert "could not be read" in desk.day(status=1).err
+    demand_not_read(desk, fail_after_the_copy)
     assert len(os.listdir(memory)) == 1
     desk.day(status=1)
     assert posted(desk) == ["1", "2"] and os.listdir(memory) == []

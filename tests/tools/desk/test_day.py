@@ -16,6 +16,7 @@ from life_tools.desk.entries import Log
 from tests.support.desks import TODAY, Desk, started
 from tests.support.folders import Folder
 from tests.support.missing import lacks
+from tests.support.tools import nothing
 
 ISSUE = "1,issue,7001,2024-05-01,endowment,0,3,1000.00,400.00"
 CLAIM = "1,claim,7001,2024-05-20"
@@ -500,14 +501,18 @@ def test_what_a_backup_lacks_is_posted_anew(begun: Desk) -> None:
     assert begun.entry(2)["lost"][0][:2] == [1, 4]
 
 
-def test_a_backup_that_was_made_while_a_run_was_noted(begun: Desk, monkeypatch: pytest.MonkeyPatch) -> None:
+def die_at_the_note() -> None:
+    setattr(Day, "note", lambda *_: os._exit(9))
+
+
+def test_a_backup_that_was_made_while_a_run_was_noted(begun: Desk) -> None:
     """In the backup, the record of the run has ended, but the entry doesn't name the run yet. Its rows were posted, and must
     not be posted again. Once they were held, or refused, and no entry had their positions."""
     begun.hand_in("a.csv", ISSUE.replace("7001", "7002") + "\n1,premium,7002,2024-05-01,400.00\n"
                   "1,settle,7001,2024-06-01,9000.00\n")
-    with monkeypatch.context() as patched:
-        patched.setattr(Day, "note", lambda *_: os._exit(9))
-        begun.folder.tools("day", "--today", TODAY)
+    begun.folder.first = die_at_the_note
+    assert begun.folder.tools("day", "--today", TODAY).status == 9
+    begun.folder.first = nothing
     early = (begun.entry_folder(2) / "entry.json").read_text()
     begun.day(status=1)
     for restored, count in ((False, 5), (True, 4)):

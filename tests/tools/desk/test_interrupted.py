@@ -8,8 +8,6 @@ import time
 
 import pytest
 
-from life_tools.desk import claiming
-from life_tools.desk.entries import Log
 from tests.support.desks import Desk, started
 from tests.support.folders import Folder
 from tests.support.killed_days import start_day
@@ -43,13 +41,18 @@ def kill(child: int) -> None:
     with contextlib.suppress(ProcessLookupError):
         os.killpg(child, signal.SIGKILL)
     os.waitpid(child, 0)
+    time.sleep(0.2)
+
+
+def kill_day(desk: Desk, postings: int, *words: str) -> None:
+    """Starts a `day`, and kills it and its program once they have begun this many records."""
+    child = start_day(desk, "said", "none", 0, words)
+    until_posted(desk, postings)
+    kill(child)
 
 
 def test_the_rest_of_a_killed_run_is_posted(desk: Desk) -> None:
-    child = start_day(desk, "said", "none", 0)
-    until_posted(desk, 20)
-    kill(child)
-    time.sleep(0.2)
+    kill_day(desk, 20)
     status = desk.day("--status", status=1)
     assert "run 2, begun" in status.err and f"{ROWS} rows of inbox/many.csv are still to be posted" in status.err
     ended = desk.day(status=1)
@@ -62,10 +65,7 @@ def test_the_rest_of_a_killed_run_is_posted(desk: Desk) -> None:
 
 def test_a_transcript_that_is_missing_or_lost_is_no_hindrance(desk: Desk) -> None:
     """Such as after a power failure: the journal is safe, and what was printed is lost."""
-    child = start_day(desk, "said", "none", 0)
-    until_posted(desk, 20)
-    kill(child)
-    time.sleep(0.2)
+    kill_day(desk, 20)
     os.remove(desk.folder.path / "log/runs/000002/transcript")
     assert "of its 120 rows were posted as positions 2 to" in desk.day(status=1).err
     assert desk.count() == ROWS + 1 and [int(row["position"]) for row in desk.log()] == list(range(1, ROWS + 2))
@@ -78,7 +78,6 @@ def test_after_a_kill_that_posted_nothing_the_whole_file_is_posted(desk: Desk) -
     while not (run / "run.json").exists():
         time.sleep(0.001)
     kill(child)
-    time.sleep(0.2)
     done = desk.count() - 1
     ended = desk.day(status=1)
     assert re.search(rf": {done} of its {ROWS} rows were posted.*\nday: the other {ROWS - done} rows are posted now", ended.err)
@@ -129,18 +128,7 @@ def test_a_released_row_that_equals_another_is_found_again(desk: Desk) -> None:
     desk.day(status=1)
     desk.hand_in("a.csv", "1,claim,1,2024-05-20\n" + "1,settle,1,2024-05-21,1.00\n" * 60)
     desk.day(status=1)
-    run = desk.folder.path / "log/runs/000004"
-    child = os.fork()
-    if child == 0:
-        os.setpgid(0, 0)
-        with contextlib.suppress(BaseException):
-            desk.day("--release", "3", "--by", "anna")
-        os._exit(0)
-    while not run.exists():
-        time.sleep(0.001)
-    until_posted(desk, ROWS + 1 + 2 + 15)
-    kill(child)
-    time.sleep(0.2)
+    kill_day(desk, ROWS + 1 + 2 + 15, "--release", "3", "--by", "anna")
     desk.day(status=1)
     assert desk.count() == ROWS + 1 + 61 and len(desk.log("--policy", "1")) == 62
 
@@ -149,10 +137,7 @@ def test_a_row_is_not_held_with_a_later_one_of_its_policy(desk: Desk) -> None:
     """The file's last row equals its 100th, and is held before the run that is killed; after it the 100th row isn't held."""
     row = "1,issue,{},2024-05-01,whole,40,0,1000.00,40.00\n"
     desk.hand_in("many.csv", "".join(row.format(number) for number in range(1, ROWS + 1)) + row.format(100))
-    child = start_day(desk, "said", "none", 0)
-    until_posted(desk, 10)
-    kill(child)
-    time.sleep(0.2)
+    kill_day(desk, 10)
     ended = desk.day(status=1)
     assert ended.out.endswith(f"-many,{ROWS},0,1,0\n") and "it equals line 100 of inbox/many.csv" in ended.err
     assert desk.count() == ROWS + 1
@@ -188,19 +173,3 @@ def test_a_claim_killed_at_any_call_is_finished(desk: Desk, call: int) -> None:
     os.waitpid(child, 0)
     desk.day(status=1)
     assert desk.count() == ROWS + 1 and desk.inbox == [] and len(desk.log()) == ROWS + 1
-
-
-def test_what_is_added_to_a_claimed_file_is_an_entry_of_its_own(desk: Desk, monkeypatch: pytest.MonkeyPatch) -> None:
-    """If the system can't say whether a file is still open, such as on a network, the rows that come late are posted, too."""
-    desk.day(status=1)
-    monkeypatch.setattr(claiming, "is_being_written", lambda path: False)
-    file = desk.hand_in("late.csv", "1,claim,1,2024-05-20\n")
-    with open(file, "a", encoding="ascii") as late:
-        os.utime(file, (1e9, 1e9))
-        entry = claiming.claimed(str(file), str(desk.folder.path), Log(str(desk.folder.path)))
-        late.write("1,settle,1,2024-05-21,1.00\n")
-    ended = desk.day(status=1)
-    assert f"{file} was written to after it was claimed: what was added is log/000004" in ended.err
-    assert len(desk.entry(entry.number)["accepted"]) == 1 and len(desk.entry(4)["accepted"]) == 1
-    assert (desk.entry_folder(4) / "handed-in.csv").read_text() == "1,settle,1,2024-05-21,1.00\n"
-    assert desk.day().err == ""
