@@ -1,7 +1,6 @@
 """Tests checkpoints: bytes worked out by hand; a second file that is no checkpoint, is locked, can't be opened or fails; a
 checkpoint that is older than the journal or than its upgrade; drawn books, for which every checkpoint is computed again
-without the program, byte by byte; `state`, which prints with a checkpoint what it prints without one; and programs that are
-killed."""
+without the program, byte by byte; and `state`, which prints with a checkpoint what it prints without one."""
 import fcntl
 import os
 import resource
@@ -14,11 +13,9 @@ import pytest
 
 from life_tools.journal.checkpoints import bytes_of_checkpoint, checkpoint_of
 from life_tools.journal.file import read_journal
-from tests.program.harness import passes
 from tests.program.office import EMPTY, FIRST_BYTES, FOREIGN, NONE_WATCHED, POLICY, RECORD, told
 from tests.support.folders import Folder
 from tests.support.made_books import lay_drawn_book
-from tests.support.program import Program
 
 CLAIMED = POLICY + "1,premium,7001,2020-01-01,400.00\n1,claim,7001,2020-06-01\n1,settle,7001,2020-07-01,400.00\n"
 SETTLED = "1,settle,7001,2020-07-03,600.00\n"
@@ -289,9 +286,3 @@ def test_drawn_books(seed: int, folder: Folder) -> None:
         folder.life("checkpoint")
         is_right(folder)
     assert folder.journal.read_bytes() == before
-
-
-@pytest.mark.alone
-@pytest.mark.timeout(600)
-def test_killed_at_random_moments(program: Program, tmp_path: Path) -> None:
-    passes(program, "kills.checkpoints", program.path, tmp_path / "killed", "24", "1")

@@ -1,14 +1,11 @@
-"""Tests limits with real sizes, and bad input, with the real program on real files: what is one byte, row, field, record or
-element past a limit; right files in which one byte is changed; drawn files and arguments. A case that fails is named with its
-number. HOSTILE is the number of seconds for changed bytes and for drawn cases, or `all`.
-"""
+"""Tests limits with real sizes, with the real program on real files: what is one byte, row, field, record or element past a
+limit."""
 import os
 import re
 from pathlib import Path
 
 import pytest
 
-from tests.program.harness import in_memory, passes
 from tests.program.hostile.trial import Trial, judge_journal, judge_script
 from tests.program.office import EMPTY, FIRST_BYTES, NONE_WATCHED, POLICY, RECORD, checks, told
 from tests.support.big_journals import write as write_big
@@ -17,23 +14,6 @@ from tests.support.made_books import select_table
 from tests.support.program import Program
 
 ACCEPTED = "1,issue,7001,accepted,1\nwatcher,1,1,1\nwatcher,2,1,0\n"
-SECONDS = os.environ.get("HOSTILE", "")
-
-
-@pytest.mark.needs_proof
-@pytest.mark.timeout(7200)
-@pytest.mark.parametrize("part", range(2))
-def test_changed_bytes(part: int, program: Program, tmp_path: Path) -> None:
-    with in_memory(tmp_path) as quick:
-        passes(program, "hostile.changed_bytes", program.path, quick, SECONDS or "20", str(part), "2", seconds=7000)
-
-
-@pytest.mark.needs_proof
-@pytest.mark.timeout(7200)
-def test_drawn_cases(program: Program, tmp_path: Path) -> None:
-    seconds = SECONDS.replace("all", "600") or "30"
-    with in_memory(tmp_path) as quick:
-        passes(program, "hostile.fuzz", program.path, quick, seconds, "1", seconds=7000)
 
 
 # each field of an issue at its limits and one beyond them, and one field too many
@@ -44,7 +24,7 @@ LIMITS = {"number": ["0", "1", "4294967295", "4294967296"], "age": ["0", "128", 
 
 @pytest.fixture
 def trial(program: Program, tmp_path: Path) -> Trial:
-    return Trial(str(program.path), str(tmp_path / "trial"))
+    return Trial(program, tmp_path / "trial")
 
 
 @pytest.mark.parametrize(("field", "value"), [(field, value) for field, values in LIMITS.items() for value in values])
@@ -147,15 +127,14 @@ def test_all_issue_ages(table_q: Folder) -> None:
 
 @pytest.mark.needs_proof
 @pytest.mark.timeout(600)
-def test_a_load_of_100_000_policies(examples_basis: Folder) -> None:
+def test_a_load_of_100_000_policies(program: Program, quick: Path) -> None:
     """The run syncs some hundred thousand times, so it runs in memory; a program in plain Rust computes the same sums
     (bench/plain_value.rs)."""
-    with in_memory(examples_basis.path) as quick:
-        folder = Folder(quick, examples_basis.program)
-        folder.take("basis.csv", "q.xml", "g.xml")
-        wanted = "load,200000,0,100000,24983240405.50,24983241045.16,0\n"
-        assert told(folder, "load", "1", "100000", "8", "8") == (0, wanted)
-        assert folder.journal.stat().st_size == FIRST_BYTES + 200_000 * RECORD
+    folder = Folder(quick, program)
+    folder.take("basis.csv", "q.xml", "g.xml")
+    wanted = "load,200000,0,100000,24983240405.50,24983241045.16,0\n"
+    assert told(folder, "load", "1", "100000", "8", "8") == (0, wanted)
+    assert folder.journal.stat().st_size == FIRST_BYTES + 200_000 * RECORD
 
 
 @pytest.mark.needs_proof

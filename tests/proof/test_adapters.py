@@ -19,6 +19,9 @@ CALLS = "tests/program/test_calls.py::test_a_first_run"
 DEVICES = "tests/program/test_devices.py::test_the_devices_give_and_take_what_the_program_is_told_and_prints"
 CLOSED = "tests/program/test_devices.py::test_no_file_takes_the_place_of_a_closed_stream"
 ARCHIVE = "tests/program/test_archive.py"
+TAKEN = "tests/program/faults/test_taken_journals.py::test_a_journal_is_taken_away"
+ONE_CALL = "tests/program/faults/test_failing_calls.py::test_one_call_of_one_lane_fails"
+BELL = "tests/program/faults/test_as_soon.py::test_a_line_is_read_as_soon_as_its_record_is_safe[8]"
 # a change, the test that must refuse it, and what that test says
 BY_TESTS = [
     ("place", CALLS, r"made \['write journal 1 00'"), ("behind", CALLS, r"wanted \['fsync journal', 'write journal 1 "),
@@ -27,16 +30,13 @@ BY_TESTS = [
     ("cut", DEVICES, "the journal doesn't hold what was written"), ("shelf", DEVICES, ""),
     ("status", "tests/program/test_run.py::test_a_bad_record", r"assert \(0, 'badjourn"),
     ("descriptors", f"{CLOSED}[output-foreign-program]", ""), ("archive", ARCHIVE, ""),
-]
-# likewise with a part of the trials of failing calls: the module, its arguments, and what it says
-BY_TRIALS = [
-    ("length", "taken cut fsync 4", "cut while fsync 4 is held up: status 0, wanted 8"),
-    ("name", "taken rename fsync 5", "rename while fsync 5 is held up: status 0, wanted 8"),
-    ("link", "taken link", "over a symbolic link: synced"),
-    ("write", "calls pwrite64 4 EIO", "call 4 fails with EIO: the file afterwards: badjournal,badrecord,0"),
-    ("sync", "calls fsync 5 EIO", "call 5 fails with EIO: 0 lines are answered fault"),
-    ("again", "calls statx 1 EINTR", "call 1 fails with EINTR: clerk diskfault"),
-    ("bell", "as_soon --clerk 8", "the run doesn't return"),
+    ("length", f"{TAKEN}_at_one_call[cut-fsync-4]", "cut while fsync 4 is delayed: status 0, wanted 8"),
+    ("name", f"{TAKEN}_at_one_call[rename-fsync-5]", "rename while fsync 5 is delayed: status 0, wanted 8"),
+    ("link", "tests/program/faults/test_taken_journals.py::test_a_symbolic_link_is_followed", "over a symbolic link: synced"),
+    ("write", f"{ONE_CALL}[pwrite64-4-EIO]", "call 4 fails with EIO: the file afterwards: badjournal,badrecord,0"),
+    ("sync", f"{ONE_CALL}[fsync-5-EIO]", "call 5 fails with EIO: 0 lines are answered fault"),
+    ("again", f"{ONE_CALL}[statx-1-EINTR]", "call 1 fails with EINTR: clerk diskfault"),
+    ("bell", BELL, "the run doesn't return"),
 ]
 
 
@@ -66,22 +66,15 @@ def by_test(program: Path, test: str) -> subprocess.CompletedProcess[str]:
     return subprocess.run(words, cwd=ROOT, env=env, capture_output=True, text=True, check=False)
 
 
-def by_trial(program: Path, folder: Path, words: str) -> subprocess.CompletedProcess[str]:
-    module, *rest = words.split()
-    env = {**os.environ, "PYTHONPATH": f"{ROOT}:{ROOT / 'tools'}"}
-    folder.mkdir()
-    command: list[str | Path] = [sys.executable, "-m", "tests.program.harness", f"faults.{module}", program, folder, *rest]
-    return subprocess.run(command, cwd=ROOT, env=env, capture_output=True, text=True, check=False)
-
-
 def test_each_change_is_tried() -> None:
     found = {name for bodies in CHANGES.values() for new in bodies.values() for name in re.findall(r"\?(\w+)", new)}
-    assert {name for name, *_ in (*BY_TESTS, *BY_TRIALS)} == found | {"bell"}
+    assert {name for name, *_ in BY_TESTS} == found | {"bell"}
 
 
 @pytest.mark.parametrize("test", dict.fromkeys(test for _, test, _ in BY_TESTS))
-def test_unchanged_the_test_passes(test: str, changed: Path) -> None:
-    ran = by_test(changed, test)
+def test_unchanged_the_test_passes(test: str, changed: Path, program: Program) -> None:
+    # the changed program never rings the bell for lane 8
+    ran = by_test(program.path if test == BELL else changed, test)
     assert ran.returncode == 0, ran.stdout[-2000:]
 
 
@@ -95,17 +88,3 @@ def test_a_changed_adapter_is_refused_by_a_test(name: str, test: str, says: str,
     if re.search(r"^1 skipped", ran.stdout, re.M):
         pytest.skip(f"{test} is skipped")
     assert ran.returncode == 1 and re.search(says, ran.stdout), ran.stdout[-2000:]
-
-
-@pytest.mark.parametrize("name, words, says", BY_TRIALS, ids=[case[0] for case in BY_TRIALS])
-def test_a_changed_adapter_is_refused_by_a_trial(
-        name: str, words: str, says: str, asked: Path, changed: Path, program: Program, tmp_path: Path) -> None:
-    # the changed program doesn't ring the bell for clerk 8; the program itself passes this trial
-    unchanged = by_trial(program.path if name == "bell" else changed, tmp_path / "unchanged", words)
-    assert unchanged.returncode == 0, unchanged.stderr[-2000:]
-    (asked / name).touch()
-    try:
-        ran = by_trial(changed, tmp_path / "changed", words)
-    finally:
-        (asked / name).unlink()
-    assert ran.returncode != 0 and says in ran.stdout + ran.stderr, (ran.stdout + ran.stderr)[-2000:]

@@ -7,7 +7,6 @@ from __future__ import annotations
 
 import datetime
 import math
-import os
 import random
 from typing import Any
 
@@ -214,20 +213,3 @@ class Office:
                 sums = [one + other for one, other in zip(sums, bounds)]
                 self.lines.append(f"{head},{money(bounds[0])},{money(bounds[1])}")
         self.lines.append(f"total,{money(sums[0])},{money(sums[1])},{words}")
-
-
-def folder_for(path: str, root: str) -> None:
-    """Creates a folder and puts the basis and its tables into it."""
-    os.makedirs(path)
-    for name in ("q.xml", "g.xml", "select.xml"):
-        with open(os.path.join(root, "examples", name), encoding="ascii") as file:
-            text = file.read()
-        with open(os.path.join(path, name), "w", encoding="ascii") as file:
-            file.write(text)
-    for name, text in (("m.xml", MIDDLE), ("basis.csv", BASIS)):
-        with open(os.path.join(path, name), "w", encoding="ascii") as file:
-            file.write(text)
-
-
-def draws(seed: int) -> random.Random:
-    return random.Random(seed)

@@ -16,6 +16,13 @@ from tests.support.folders import Folder
 ONE = 10**9
 
 
+def lay_basis(folder: Folder) -> None:
+    """Writes a basis of four tables, one of them a select table."""
+    folder.write("basis.csv", BASIS)
+    folder.write("m.xml", MIDDLE)
+    folder.take("q.xml", "g.xml", "select.xml")
+
+
 def lay_drawn_book(folder: Folder, seed: int, policies: int, scripts: int) -> None:
     """Writes a drawn book with a basis of four tables: policies of all plans and statuses, at ages around the ends of the
     tables, after commands of drawn scripts."""
@@ -25,9 +32,7 @@ def lay_drawn_book(folder: Folder, seed: int, policies: int, scripts: int) -> No
         # make_script also takes the accepted commands into the book
         make_script(draw, book)
     folder.write("journal.life", bytes(file_of(book.commands)))
-    folder.write("basis.csv", BASIS)
-    folder.write("m.xml", MIDDLE)
-    folder.take("q.xml", "g.xml", "select.xml")
+    lay_basis(folder)
 
 
 def grid_of_all_ages() -> bytes:

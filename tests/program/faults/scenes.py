@@ -2,7 +2,7 @@
 made."""
 from dataclasses import dataclass
 
-from tests.program.faults.runs import JOURNAL, KEPT
+from tests.program.runs import JOURNAL, KEPT
 from tests.rules.policies import Book
 from life_tools.journal.checkpoints import bytes_of_checkpoint, checkpoint_of
 from life_tools.rules.commands import Command
@@ -70,7 +70,7 @@ SCENES = [
     Scene("mean values", ["value", "2021-01-01", "--mean"], b"", True, OPENS + READS_BASIS + READS + [("write", "out")]),
     Scene("a projection", ["project", "2021-01-01", "3"], b"", True, OPENS + READS_BASIS + READS + [("write", "out")]),
     Scene("the state", ["state"], b"", True, OPENS + READS + OPENS_KEPT + [("write", "out")]),
-    Scene("the state behind a checkpoint", ["state"], b"", True,
+    Scene("the state by a checkpoint", ["state"], b"", True,
           OPENS + OPENS_KEPT + READS + [("pread64", KEPT), ("write", "out")], 4),
     Scene("a checkpoint", ["checkpoint"], b"", True, OPENS + OPENS_KEPT + READS + [("pwrite64", KEPT), ("write", "out")]),
     Scene("a later checkpoint", ["checkpoint"], b"", True,

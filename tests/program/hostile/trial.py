@@ -4,95 +4,76 @@ The judges use the readers in tools/, and for tables and arguments the plain rea
 program does anything else: another line, another status, a signal, output on standard error, a file that was changed, or no
 output within a time that no such case needs.
 """
-import collections
-import os
-import subprocess
 import time
 import zlib
-from collections.abc import Callable, Iterable
+from collections import Counter
+from collections.abc import Callable, Sequence
 from dataclasses import astuple
-from typing import Any
+from pathlib import Path
+from typing import Any, TypeVar
 
-from life_tools.reserves.projection_check import check_years
-from life_tools.scripts.transcript_check import asks_for_values, check
-from life_tools.reserves.valuation_check import check_block
+from life_tools.common.formats import MEASURES, MOST_BASIS_BYTES, Wrong, day_in, money, printed_rows
 from life_tools.journal.checkpoints import Checkpoint, bytes_of_checkpoint, checkpoint_in, checkpoint_of
-from life_tools.common.formats import MEASURES, MOST_BASIS_BYTES, Wrong, day_in, demand, money, printed_rows
 from life_tools.journal.file import EMPTY, file_of, gate_of, read_journal
+from life_tools.reserves.projection_check import check_years
+from life_tools.reserves.projections import printed_projection
+from life_tools.reserves.valuation_check import check_block
+from life_tools.rules.commands import Command
+from life_tools.scripts.lines import Fault, lines_in, read_script
+from life_tools.scripts.transcript_check import asks_for_values, check
+from life_tools.tables.basis import BasisRow, NotXml, SelectTable, Table, read_basis, read_table
 from tests.program.hostile.plain_tables import read_plain_table
 from tests.program.hostile.plain_words import meaning_of
+from tests.program.runs import JOURNAL, KEPT, Desk, case
 from tests.rules.policies import Book, Policy, Refusal, balances_of, booking_of
-from life_tools.reserves.projections import printed_projection
-from life_tools.scripts.lines import Fault, lines_in, read_script
-from tests.support.drawn_scripts import folder_for, for_tools
-from life_tools.tables.basis import BasisRow, NotXml, SelectTable, Table, read_basis, read_table
-from life_tools.rules.commands import Command
-from life_tools.reserves.exact import Known
+from tests.support.drawn_scripts import for_tools
+from tests.support.made_books import lay_basis
+from tests.support.program import Program
 
-ROOT = os.path.abspath(os.path.join(os.path.dirname(os.path.abspath(__file__)), "..", "..", ".."))
-
-SECONDS = 30
 # the number of cases that are tried even if the time is over
 LEAST = 200
 ON = "2021-01-01"
 FRESH = 4294967295
 
+Case = TypeVar("Case")
 
-def try_for(seconds: float, cases: Iterable[Any] | list[tuple[str, int, int]], try_one: Callable[..., Any], what: str) -> None:
+
+def try_for(seconds: float, cases: Sequence[Case], try_one: Callable[[Case], str]) -> None:
     """Tries cases until the time is over and at least LEAST were tried, and prints how many ended in each way."""
     end = time.monotonic() + seconds
-    seen: collections.Counter[str] = collections.Counter()
-    for case in cases:
-        if time.monotonic() > end and sum(seen.values()) >= LEAST:
+    seen: Counter[str] = Counter()
+    for number, one in enumerate(cases):
+        if time.monotonic() > end and number >= LEAST:
             break
-        seen[try_one(case)] += 1
-    print(f"hostile: {sum(seen.values())} {what}: " + ", ".join(f"{kind} {seen[kind]}" for kind in sorted(seen)))
+        with case(one):
+            seen[try_one(one)] += 1
+    print(f"{sum(seen.values())} of {len(cases)} cases: {dict(sorted(seen.items()))}")
 
 
-class Trial:
-    """A program, and a folder with the basis of the drawn scripts, in which the program runs."""
+class Trial(Desk):
+    """A desk with the basis of the drawn scripts."""
 
-    def __init__(self, program: str, folder: str) -> None:
-        self.program, self.folder = os.path.abspath(program), folder
-        folder_for(folder, ROOT)
-        self.known: Known = {}  # exact values that were computed, by what they depend on
+    def __init__(self, program: Program, path: Path) -> None:
+        super().__init__(program, path)
+        self.known = {}
+        lay_basis(self)
 
-    def path(self, name: str) -> str:
-        return os.path.join(self.folder, name)
+    def ran(self, *words: Any, script: bytes = b"") -> tuple[int, str]:
+        """Returns the status and the output; the program may not end by a signal nor complain on standard error."""
+        self.write("script.csv", script)
+        ended = self.run(words)
+        assert ended.status >= 0, f"{words}: ended by signal {-ended.status}"
+        assert not ended.complaints, f"{words}: on standard error stands {ended.complaints[:300]!r}"
+        return ended.status, ended.text
 
-    def write(self, name: str, data: bytes) -> None:
-        with open(self.path(name), "wb") as file:
-            file.write(data)
-
-    def read(self, name: str) -> bytes:
-        """Returns the content of a file, which is empty if there is no file."""
-        if not os.path.exists(self.path(name)):
-            return b""
-        with open(self.path(name), "rb") as file:
-            return file.read()
-
-    def remove(self, name: str) -> None:
-        if os.path.exists(self.path(name)):
-            os.remove(self.path(name))
-
-    def run(self, *words: Any, script: bytes = b"", seconds: int = SECONDS) -> tuple[int, str]:
-        try:
-            ran = subprocess.run([self.program, *words], cwd=self.folder, input=script, capture_output=True, timeout=seconds)
-        except subprocess.TimeoutExpired:
-            raise Wrong(f"{words}: no answer within {seconds} s") from None
-        except BrokenPipeError:
-            raise Wrong(f"{words}: the program ended before it had read its script") from None
-        demand(ran.returncode >= 0, f"{words}: ended by signal {-ran.returncode}")
-        demand(not ran.stderr, f"{words}: on standard error stands {ran.stderr[:300]!r}")
-        return ran.returncode, ran.stdout.decode("utf-8", "surrogateescape")
-
-    def basis(self) -> list[BasisRow] | None:
-        return read_basis(self.path("basis.csv"))
+    def read_basis(self) -> list[BasisRow]:
+        """Returns the basis as it now is."""
+        return read_basis(str(self.path / "basis.csv"))
 
 
 def demand_answer(found: tuple[int, str], status: int, text: str, words: list[bytes] | str) -> None:
-    demand(found == (status, text), f"{words}: the answer is {found[0]}, {found[1][-300:]!r}, and must be {status}, "
-                                    f"{text[-300:]!r}")
+    assert found == (status, text), (
+        f"{words}: it printed {found[1][-300:]!r} with status {found[0]}, and must print {text[-300:]!r} with {status}")
 
 
 # --- journals ---
@@ -110,14 +91,14 @@ def state_of(book: Book, balances: dict[str, int] | None = None) -> str:
 def judge_journal(trial: Trial, data: bytes) -> str:
     """Judges `state` over any bytes as journal.life: it prints the book that they hold or the reason for their refusal, and
     leaves the right file."""
-    trial.write("journal.life", data)
+    trial.write(JOURNAL, data)
     journal = read_journal(data)
-    found = trial.run("state")
+    found = trial.ran("state")
     if journal.refused:
         demand_answer(found, 5, journal.refused + "\n", "state")
     else:
         demand_answer(found, 0, state_of(Book(journal.commands)), "state")
-    demand(trial.read("journal.life") == (EMPTY if journal.is_unfinished else data), "state changed the file")
+    assert trial.bytes_of() == (EMPTY if journal.is_unfinished else data), "state changed the file"
     return journal.refused.rsplit(",", 1)[0] or "opened"
 
 
@@ -140,41 +121,41 @@ def state_from(checkpoint: Checkpoint, commands: list[Command]) -> tuple[int, st
 def judge_checkpoint(trial: Trial, data: bytes, book: Book) -> str:
     """Judges the program over any bytes as checkpoint.life and the journal of the book: what `state` prints, and the
     checkpoint that `checkpoint` then makes."""
-    trial.write("journal.life", file_of(book.commands))
-    trial.write("checkpoint.life", data)
+    trial.write(JOURNAL, file_of(book.commands))
+    trial.write(KEPT, data)
     try:
         checkpoint = checkpoint_in(data)
     except Wrong:
         checkpoint = None
     is_used = checkpoint is not None and checkpoint.position <= len(book.commands)
     wanted = state_from(checkpoint, book.commands) if is_used and checkpoint else (0, state_of(book))
-    demand_answer(trial.run("state"), *wanted, "state")
-    demand(trial.read("checkpoint.life") == data, "state changed the checkpoint")
-    found = trial.run("checkpoint")
+    demand_answer(trial.ran("state"), *wanted, "state")
+    assert trial.bytes_of(KEPT) == data, "state changed the checkpoint"
+    found = trial.ran("checkpoint")
     demand_answer(found, wanted[0], wanted[1] if wanted[0] else f"checkpoint,{len(book.commands)}\n", "checkpoint")
     if wanted[0] == 0:
-        demand_answer(trial.run("state"), *wanted, "state by the checkpoint that was made")
+        demand_answer(trial.ran("state"), *wanted, "state by the checkpoint that was made")
     if not is_used:
         made = bytes_of_checkpoint(checkpoint_of(book.commands))
-        demand(trial.read("checkpoint.life") == made + data[len(made):], "another checkpoint was made")
-    demand(trial.read("journal.life") == file_of(book.commands), "the journal was changed")
-    trial.remove("checkpoint.life")
+        assert trial.bytes_of(KEPT) == made + data[len(made):], "another checkpoint was made"
+    assert trial.bytes_of() == file_of(book.commands), "the journal was changed"
+    (trial.path / KEPT).unlink()
     if not is_used:
         return "unused"
     return "this book's" if wanted == (0, state_of(book)) else f"of another book, {wanted[0]}"
 
 
 def judge_posting(trial: Trial, data: bytes) -> str:
-    trial.write("journal.life", data)
+    trial.write(JOURNAL, data)
     journal = read_journal(data)
     script = f"1,issue,{FRESH},2020-01-01,endowment,0,3,1000.00,400.00\n".encode()
-    found = trial.run("run", script=script)
-    after = trial.read("journal.life")
+    found = trial.ran("run", script=script)
+    after = trial.bytes_of()
     if journal.refused:
         demand_answer(found, 5, journal.refused + "\n", "run")
-        demand(after == data, "a file that is refused was changed")
+        assert after == data, "a file that is refused was changed"
         return journal.refused.rsplit(",", 1)[0]
-    demand(found[0] == 0, f"run: the answer is {found}")
+    assert found[0] == 0, f"run: the answer is {found}"
     before = EMPTY if journal.is_unfinished else data
     check(script, found[1], before, after, [])
     count = len(journal.commands)
@@ -182,7 +163,7 @@ def judge_posting(trial: Trial, data: bytes) -> str:
     if command.number not in journal.book.policies:
         record = file_of([command])[17:]
         wanted = before[:gate_of(count)] + record + before[gate_of(count) + len(record):]
-        demand(after == wanted, "beside the new record the file was changed")
+        assert after == wanted, "beside the new record the file was changed"
     return "posted"
 
 
@@ -191,15 +172,15 @@ def judge_posting(trial: Trial, data: bytes) -> str:
 def judge_script(trial: Trial, data: bytes) -> str:
     """Judges any bytes as a script, without a journal: the program must report the place of the first fault, or a history of
     the lines."""
-    trial.remove("journal.life")
-    status, text = trial.run("run", script=data)
+    trial.journal.unlink(missing_ok=True)
+    status, text = trial.ran("run", script=data)
     lines = read_script(data)
     if isinstance(lines, Fault):
         demand_answer((status, text), 3, lines.answer + "\n", "run")
-        demand(not os.path.exists(trial.path("journal.life")), "a journal was made for a script that is wrong")
+        assert not trial.journal.exists(), "a journal was made for a script that is wrong"
         return "badscript"
-    demand(status == 0, f"run: the answer is {status}, {text[-300:]!r}, and the script is right")
-    check(data, text, b"", trial.read("journal.life"), trial.basis() or [] if asks_for_values(data) else [], trial.known)
+    assert status == 0, f"run: the answer is {status}, {text[-300:]!r}, and the script is right"
+    check(data, text, b"", trial.bytes_of(), trial.read_basis() if asks_for_values(data) else [], trial.known)
     return "taken"
 
 
@@ -209,24 +190,24 @@ def judge_values(trial: Trial, basis: list[BasisRow], book: Book, wanted: str, d
     """Judges the valuation of the book by a basis, or the line for the bad file if there is no basis. The measure is drawn
     from the bytes of the file."""
     measure = MEASURES[zlib.crc32(data) % len(MEASURES)]
-    status, text = trial.run("value", ON, *([] if measure == "terminal" else ["--" + measure]))
+    status, text = trial.ran("value", ON, *([] if measure == "terminal" else ["--" + measure]))
     if wanted:
         demand_answer((status, text), 4, wanted + "\n", "value")
         return
     rows = printed_rows(text)
-    demand(status == 0 and rows[0][:4] == ["0", "value", ON, str(len(book.commands))],
-           f"value: the answer is {status}, {text[:300]!r}")
+    is_whole = status == 0 and rows[0][:4] == ["0", "value", ON, str(len(book.commands))]
+    assert is_whole, f"value: the answer is {status}, {text[:300]!r}"
     check_block(rows, list(map(for_tools, book.policies.values())), basis, {}, measure)
 
 
 def judge_basis(trial: Trial, data: bytes, book: Book) -> str:
     """Judges a valuation by any bytes as basis.csv, with right tables and the journal of the book."""
     trial.write("basis.csv", data)
-    trial.write("journal.life", file_of(book.commands))
+    trial.write(JOURNAL, file_of(book.commands))
     basis: Any = []
     wanted = ""
     try:
-        basis = trial.basis()
+        basis = trial.read_basis()
     except Wrong as wrong:
         wanted = str(wrong)
     judge_values(trial, basis, book, wanted, data)
@@ -238,7 +219,7 @@ def judge_table(trial: Trial, data: bytes, book: Book) -> str:
     accepts the file, tools/life_tools/tables/basis.py must read the same table."""
     trial.write("basis.csv", b"1900-01-01,t.xml,250\n")
     trial.write("t.xml", data)
-    trial.write("journal.life", file_of(book.commands))
+    trial.write(JOURNAL, file_of(book.commands))
     table: Any = Table(0, ())
     wanted = "badbasis,t.xml,1,toolong" if len(data) > MOST_BASIS_BYTES else ""
     try:
@@ -257,35 +238,35 @@ def demand_parsers_agree(data: bytes, table: SelectTable | Table, wanted: str) -
         return
     except Wrong as wrong:
         found = table, str(wrong)
-    demand(found == (table, wanted) or wanted.endswith(",toolong"),
-           f"the two readers of tables differ: {found} and {table, wanted}")
+    is_same = found == (table, wanted) or wanted.endswith(",toolong")
+    assert is_same, f"the two readers of tables differ: {found} and {table, wanted}"
 
 
-# --- words ---
+# --- arguments ---
 
-def judge_words(trial: Trial, words: list[bytes], script: bytes, book: Book) -> str:
+def judge_arguments(trial: Trial, words: list[bytes], script: bytes, book: Book) -> str:
     """Judges any arguments, each as bytes, with the journal of the book; the script is right, and has no valuation."""
-    trial.write("journal.life", file_of(book.commands))
-    found = trial.run(*words, script=script)
+    trial.write(JOURNAL, file_of(book.commands))
+    found = trial.ran(*words, script=script)
     meaning = meaning_of(words, len(book.commands))
-    after = trial.read("journal.life")
+    after = trial.bytes_of()
     if meaning.mode in ("run", "load"):
-        demand(meaning.fits(found), f"{words}: the answer is {found[0]}, {found[1][-300:]!r}")
+        assert meaning.fits(found), f"{words}: the answer is {found[0]}, {found[1][-300:]!r}"
         if meaning.mode == "run":
             check(script, found[1], file_of(book.commands), after, [])
         return meaning.mode
     if meaning.mode == "checkpoint":
         made = bytes_of_checkpoint(checkpoint_of(book.commands))
-        demand(trial.read("checkpoint.life")[:len(made)] == made, "another checkpoint was made")
-        trial.remove("checkpoint.life")
+        assert trial.bytes_of(KEPT)[:len(made)] == made, "another checkpoint was made"
+        (trial.path / KEPT).unlink()
     if meaning.mode == "state" and not meaning.number:
         demand_answer(found, 0, state_of(book), words)
-    demand(meaning.fits(found), f"{words}: the answer is {found[0]}, {found[1][-300:]!r}, and the words are {meaning.mode}")
+    assert meaning.fits(found), f"{words}: the answer is {found[0]}, {found[1][-300:]!r}, and the arguments are {meaning.mode}"
     rows = printed_rows(found[1]) if meaning.mode == "value" and found[0] == 0 else []
     if rows:
         policies = Book(book.commands[:int(rows[0][3])]).policies
-        check_block(rows, list(map(for_tools, policies.values())), trial.basis() or [], trial.known, meaning.measure)
+        check_block(rows, list(map(for_tools, policies.values())), trial.read_basis(), trial.known, meaning.measure)
     if meaning.mode == "project" and found[0] == 0:
-        check_years(printed_projection(found[1]), list(map(for_tools, book.policies.values())), trial.basis() or [])
-    demand(after == file_of(book.commands), f"{words}: journal.life was changed")
+        check_years(printed_projection(found[1]), list(map(for_tools, book.policies.values())), trial.read_basis())
+    assert after == file_of(book.commands), f"{words}: journal.life was changed"
     return meaning.mode if meaning.measure == "terminal" else f"{meaning.mode} by {meaning.measure}"

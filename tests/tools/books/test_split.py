@@ -23,9 +23,10 @@ from life_tools.books import new_books
 from life_tools.common.formats import KINDS, Wrong
 from life_tools.journal.file import file_of, read_journal
 from life_tools.rules.commands import words_of
-from tests.support.drawn_scripts import folder_for, make_book, make_script
+from tests.support.drawn_scripts import make_book, make_script
 from tests.support.folders import Folder
 from tests.support.lived_books import lived
+from tests.support.made_books import lay_basis
 from tests.support.program import ROOT
 
 DIVISIONS = [["numbers=1-20", "numbers=21-40", "others"], ["years=1999-2004", "years=2005-"], ["class=even", "class=odd"]]
@@ -112,7 +113,7 @@ def test_a_book_after_each_kind_of_command(folder: Folder, kind: str) -> None:
             if row.split(",")[1] not in ("value", "trim")]
     folder.write("classes.csv", "".join(f"{number},{'odd' if number % 2 else 'even'}\n" for number in sorted(book.policies)))
     # the prefix that ends with the last command of the kind
-    folder_for(str(folder.path / "old"), str(ROOT))
+    lay_basis(folder.below("old"))
     old = folder.below("old")
     old.journal.write_bytes(file_of(commands[:len(kinds) - kinds[::-1].index(kind)]))
     before = old.journal.read_bytes()
