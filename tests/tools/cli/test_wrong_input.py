@@ -1,8 +1,9 @@
 """Tests files that aren't what they must be: each tool reports it, with the place, ends with status 2 and writes nothing.
 
-The first table has one fault of each kind, with its message. The second table has each place that takes a file, into which
-strange files are put.
+The first table has one fault of each kind, with its message. The other tables have each place that takes a file or a name:
+strange files are put there, and a pipe and a device where a file is read.
 """
+import os
 import shlex
 from random import Random
 
@@ -85,45 +86,27 @@ at --folder nowhere 0 state | nowhere/journal.life: {NONE}
 at --folder cut 1 state | {CUT}
 at 1 value 2021-02-29 | life value 2021-02-29 ended with 2
 """
-# A strange file is put in the place of @; the other files are those of the folder.
-PLACES = """\
-day --folder @
-day --status --folder @
-day --release 1 --folder @
-log --folder @
+# a strange file is put in the place of @; the other files are those of the folder
+FILES = """\
 check @
 due 2021-01-01 @
 import @ --map map.csv --script new --left new-left
 import other.csv --map @ --script new --left new-left
 books @ state
 books headroom @
-books split @ numbers=1-12 others new-1 new-2
 books books.csv value 2022-12-31 --at @
-why 14 2022-12-31 --basis @
 value 2022-12-31 --classes @ --bases bases.csv
 value 2022-12-31 --classes classes.csv --bases @
-report 2022-12-31 --basis @
-report 2022-12-31 --classes @ --by class
-movement 2021-12-31 11 2022-12-31 20 --basis @
-movement 2021-12-31 11 2022-12-31 20 --folder @
-statement 2021-12-31 11 2022-12-31 20 --basis @
-statement 2021-12-31 11 2022-12-31 20 --folder @
 dry-run @
-dry-run next.csv --life @
 rest @ journal.life 27
 rest next.csv @ 27
 rest next.csv journal.life --printed @
 explain @
 explain badscript,2,1 @
-at 1 state --folder @
-at 1 state --life @
 position-on 2021-01-01 @
 verify @
 verify --seal @
 headroom @
-headroom --recorded @
-backup new --folder @
-restore @ --folder new
 read @
 read-checkpoint @
 read-checkpoint checkpoint.life @
@@ -143,12 +126,9 @@ check-values journal.life basis.csv @
 check-projection @ basis.csv projected
 check-projection journal.life @ projected
 check-projection journal.life basis.csv @
-generate 1 10 1 --from 5 --life @
 plot reserves @
 plot book @
 plot projection @
-audit flags --folder @
-audit sample 2 --seed 1 --on 2022-12-31 --basis @
 audit papers @ --html new
 audit letters @
 table check @
@@ -156,15 +136,52 @@ table convert @ new
 table round @ new
 table join @ q.xml new
 table join q.xml @ new
-seal --folder @
 seal --check @
+browse --books @
+"""
+# likewise, where @ is the name of a folder, a program, a basis or a copy
+NAMES = """\
+day --folder @
+day --status --folder @
+day --release 1 --folder @
+log --folder @
+books split @ numbers=1-12 others new-1 new-2
+why 14 2022-12-31 --basis @
+report 2022-12-31 --basis @
+report 2022-12-31 --classes @ --by class
+movement 2021-12-31 11 2022-12-31 20 --basis @
+movement 2021-12-31 11 2022-12-31 20 --folder @
+statement 2021-12-31 11 2022-12-31 20 --basis @
+statement 2021-12-31 11 2022-12-31 20 --folder @
+dry-run next.csv --life @
+at 1 state --folder @
+at 1 state --life @
+headroom --recorded @
+backup new --folder @
+restore @ --folder new
+generate 1 10 1 --from 5 --life @
+audit flags --folder @
+audit sample 2 --seed 1 --on 2022-12-31 --basis @
+seal --folder @
 seal --basis @
 browse --folder @
-browse --books @
 """
 TAKES_NONE = {"version"}
 STRANGE = {"page": b"<html>no such thing\n", "noise": Random(1).randbytes(3000), "empty": b"", "zeros": bytes(3000),
            "commas": b",,,,,,,,,,,\n" * 40, "sixteen": "1,issue,1\n".encode("utf-16")}
+DIGITS = "9" * 5000
+# numbers that are too long, in each kind of file
+LONG = {
+    "script": f"1,premium,{DIGITS},2022-01-01,{DIGITS}.00\n",
+    "row": f"row,{DIGITS},inforce,{DIGITS},1.00,{DIGITS}.00\n",
+    "policies": f"policy,{DIGITS},inforce,term,1,2,{DIGITS}.00,1.00,2020-01-01,{DIGITS},0.00\ncount,{DIGITS}\n",
+    "count": f"count,{DIGITS}\n",
+    "balances": f"balance,cash,{DIGITS}.00\n",
+    "valuation": f"0,value,2022-12-31,{DIGITS},{DIGITS}\ntotal,1,1,1\n",
+    "numbers": f"{DIGITS},{DIGITS},{DIGITS}\n",
+    "rates": f'<XTbML><Table><Values><Axis><Y t="0">0.{DIGITS}</Y></Axis></Values></Table></XTbML>',
+    "escapes": "1,\xff\xfe,\x1b[2J,7\n",
+}
 MOST_LINES = 12
 
 
@@ -203,25 +220,35 @@ def places(office: Folder) -> Folder:
     office.write("classes.csv", "11,smoker\n")
     office.write("bases.csv", "smoker,basis.csv\n")
     (office.path / "folder").mkdir()
-    for name, data in STRANGE.items():
+    for name, data in {**STRANGE, **{name: text.encode("latin-1") for name, text in LONG.items()}}.items():
         office.write(name, data)
     return office
 
 
 def test_each_tool_that_takes_a_file_is_tried() -> None:
-    assert {row.split()[0] for row in PLACES.splitlines()} == set(ENTRIES) - TAKES_NONE
+    assert {row.split()[0] for row in (FILES + NAMES).splitlines()} == set(ENTRIES) - TAKES_NONE
 
 
-@pytest.mark.parametrize("row", PLACES.splitlines())
+@pytest.mark.parametrize(("row", "files"), [*((row, (*STRANGE, *LONG)) for row in FILES.splitlines()),
+                                            *((row, (*STRANGE,)) for row in NAMES.splitlines())])
 @pytest.mark.needs("python:numpy", "python:pandas", "python:flask")
-def test_strange_files(places: Folder, row: str) -> None:
+def test_strange_files(places: Folder, row: str, files: tuple[str, ...]) -> None:
     """An empty file may be right: a journal without commands, or a script without rows."""
     before = places.files()
-    for file in (*STRANGE, "folder", "nowhere.csv"):
+    for file in (*files, "folder", "nowhere.csv"):
         ended = places.tools(*shlex.split(row.replace("@", file)))
         assert ended.status in ((0, 1, 2) if file == "empty" else (1, 2)), (file, ended)
-        assert "Traceback" not in ended.err and len(ended.err.splitlines()) <= MOST_LINES, (file, ended)
+        assert "Traceback" not in ended.err and "not foreseen" not in ended.err, (file, ended)
+        assert len(ended.err.splitlines()) <= MOST_LINES, (file, ended)
         if ended.status:
             assert ended.err or ended.out, file
             assert places.files() == before, file
         before = places.files()
+
+
+@pytest.mark.parametrize("row", FILES.splitlines())
+@pytest.mark.needs("python:numpy", "python:pandas", "python:flask")
+def test_a_pipe_or_a_device_is_refused_at_once(places: Folder, row: str) -> None:
+    os.mkfifo(places.path / "pipe")
+    for name in ("pipe", "/dev/zero"):
+        places.refused(*shlex.split(row.replace("@", name)), says=f"{name}: it is a pipe or a device: save it as a file first")
