@@ -124,7 +124,7 @@ def test_by_amount_and_by_mean_reserves(small_office: Folder) -> None:
 def test_a_row_with_a_word_counts_for_nothing_by_its_reserve(small_office: Folder) -> None:
     small_office.write("late.csv", "2021-02-01,g.xml,400\n")
     words = ["audit", "sample", "2", "--seed", "1", *ON, "--basis", "late.csv"]
-    small_office.finds(*words, says="of these 1 have no reserve")
+    small_office.finds(*words, says="of these not valued, as a word in place of the bounds says: 1")
     small_office.printed(*words, "--by", "amount")
 
 

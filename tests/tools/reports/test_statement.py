@@ -209,7 +209,7 @@ basis.csv 1900-01-01 q.xml 0 bp 2 1 1000.00 127.22 127.23 0
 basis.csv 2020-02-01 q.xml 500 bp 2 1 300.00 111.56 111.57 0
 none 2 2 200.00 0.00 0.00 2
 total 6 4 1500.00 238.78 238.80 2""")
-    has(classes.printed(*BETWEEN, *CLASSES), "late.csv no value: nobasis 2 200.00")
+    has(classes.printed(*BETWEEN, *CLASSES), "late.csv not valued: issued before the basis 2 200.00")
     has(classes.printed("movement", *BETWEEN[1:], *CLASSES, "--deficiency"), "closing reserve 6 391.56 391.57")
 
 

@@ -227,6 +227,8 @@ def test_charts_of_drawn_books(tools: Path, program: Program, tmp_path: Path, se
 
 # --- movements, groups and bases ---
 
+AGES = range(0, 100, 10)
+
 MOVEMENT = "on1=2021-12-31&p1={first}&on2=2022-12-31&p2={last}"
 
 
@@ -274,7 +276,7 @@ def test_a_group_of_a_report_leads_to_its_policies(window: Window, lived: Folder
     position = lived.tools("position-on", "2022-12-31", "journal.life").out.strip()
     answer = window.page(f"/1/report?on=2022-12-31&p={position}")
     links = [each for each in answer.links() if "/group?" in each]
-    names = {"in force": "inforce", "paid up": "paidup"}
+    names = {"in force": "inforce", "paid up": "paidup", **{f"{age} to {age + 9}": f"{age:03}-{age + 9:03}" for age in AGES}}
     for caption, key in (("By plan", "plan"), ("By status", "status"), ("By age at issue", "age-band"),
                          ("By row of the basis", "basis-row")):
         for row in answer.rows(caption):

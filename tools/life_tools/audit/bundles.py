@@ -14,6 +14,7 @@ from life_tools.reports import charts
 from life_tools.reports.report_files import Tables
 from life_tools.reports.report_pages import STYLE, apart, facts, money, table, words_of
 from life_tools.reports.whole_pages import fact_list, whole_page
+from life_tools.reports.wording import NOT_VALUED, group_text, keys_text
 from life_tools.valuations.groups import Groups, Sums
 from life_tools.valuations.printed_columns import ColumnValuation
 
@@ -34,19 +35,19 @@ code { overflow-wrap: anywhere } li { margin: .4rem 0 }
 def chart_of(keys: Sequence[str], groups: Groups) -> str:
     """Returns a chart of the amounts insured and the reserves of the groups, side by side."""
     some = list(groups.items())[-MOST_GROUPS:]
-    axes = charts.Axes(", ".join(keys), [", ".join(name) for name, _ in some], "amount")
+    axes = charts.Axes(keys_text(keys), [group_text(keys, name) for name, _ in some], "amount")
     series = [charts.Series("amount insured", "c2", [sums.amount for _, sums in some]),
               charts.Series("reserve, upper bound", "c1", [sums.bounds[-1] for _, sums in some])]
     left = f"<p>The last {len(some)} of {len(groups)} groups.</p>" if len(some) < len(groups) else ""
-    return charts.columns(f"Amount insured and reserve by {', '.join(keys)}", axes, series) + left
+    return charts.columns(f"Amount insured and reserve by {keys_text(keys)}", axes, series) + left
 
 
 def sheets(tables: Tables, total: Sums, columns: Sequence[str]) -> list[str]:
     parts = []
     for keys, groups in tables:
-        cells = [[", ".join(name), *map(apart, sums.cells())] for name, sums in groups.items()]
-        parts += [f"<div class=\"whole\"><h2>By {escape(', '.join(keys))}</h2>", chart_of(keys, groups), "</div>",
-                  table([", ".join(keys), *columns], cells, ["total", *map(apart, total.cells())])]
+        cells = [[group_text(keys, name), *map(apart, sums.cells())] for name, sums in groups.items()]
+        parts += [f"<div class=\"whole\"><h2>By {keys_text(keys)}</h2>", chart_of(keys, groups), "</div>",
+                  table([keys_text(keys), *columns], cells, ["total", *map(apart, total.cells())])]
     return parts
 
 
@@ -92,9 +93,9 @@ def bundle(title: str, told: Mapping[str, str], valuation: ColumnValuation, tota
            papers: Papers | None, bases: Sequence[str]) -> str:
     """Returns the whole page."""
     seal = [] if papers is None else ["<h2>Seal</h2>", f"<pre>{escape(text_of(papers.books[0].seal))}</pre>"]
-    columns = ["policies", "insured", "amount insured", *heads, "without a value"]
+    columns = ["policies", "insured", "amount insured", *heads, NOT_VALUED]
     parts = [fact_list(told), "<p>Amounts in the journal's currency. The exact reserve lies between the lower and the upper "
              "bound. Each table adds up to the total that the program printed.</p>", facts(valuation, total, heads),
-             *sheets(tables, total, columns), "<h2>Policies without a value</h2>", words_of(valuation.rows), *sampled(papers),
+             *sheets(tables, total, columns), f"<h2>Policies {NOT_VALUED}</h2>", words_of(valuation.rows), *sampled(papers),
              *seal, *checks_of(valuation, told, papers, bases)]
     return whole_page(title, STYLE + PRINTED + CHARTS, told, parts)

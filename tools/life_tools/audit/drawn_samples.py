@@ -40,7 +40,7 @@ class Drawn:
                  f"all; the interval is {money(drawn.total // drawn.asked)}",
                  f"rows of at least the interval, which are drawn for certain: {drawn.certain}",
                  f"rows of 0, which can't be drawn: {drawn.nothing}"]
-        return lines + ([f"of these {self.words} have no reserve, as a word in its place says"] if self.words else [])
+        return lines + ([f"of these not valued, as a word in place of the bounds says: {self.words}"] if self.words else [])
 
 
 def drawable_of(valuation: ColumnValuation, policies: StatePolicies, by: str) -> Drawable:

@@ -147,7 +147,7 @@ def report_sheets(options: argparse.Namespace, outcomes: Sequence[Outcome]) -> l
     tables += [(same[0][0], groups_added([groups for _, groups in same])) for same in zip(*(each.tables for each in made))]
     for keys, groups in tables:
         demand(groups_added([{("",): each} for each in groups.values()]) == {("",): total}, f"the tables by {keys} don't add up")
-    return [sheet_of(keys, groups, total, columns) for keys, groups in tables]
+    return [sheet_of(keys, groups, total, columns, bool(options.html or options.xlsx)) for keys, groups in tables]
 
 
 def movement_sheets(options: argparse.Namespace, outcomes: Sequence[Outcome]) -> list[Sheet]:

@@ -35,6 +35,7 @@ from life_tools.reports.report_pages import page
 from life_tools.reports.report_sheets import sheet_of
 from life_tools.reports.sheet_files import warning_rows, write_workbook
 from life_tools.reports.sheets import HEADS
+from life_tools.reports.wording import keys_text
 from life_tools.common.files import write_text, written_whole
 
 DEFAULT = ("plan", "status", "issue-year")
@@ -125,12 +126,12 @@ def run(options: argparse.Namespace) -> int:
         warnings = warning_rows(facts_of(options, valuation.position))
         written_whole(options.csv, lambda path: write_csv(path, tables, total, columns, warnings))
     elif options.xlsx:
-        sheets = [sheet_of(keys, groups, total, columns) for keys, groups in tables]
+        sheets = [sheet_of(keys, groups, total, columns, True) for keys, groups in tables]
         told = {"valuation": f"{title}, {valuation.measure}", **facts_of(options, valuation.position)}
         written_whole(options.xlsx, lambda path: write_workbook(path, f"{told['book']}: {title}", told, sheets))
     elif options.html:
         checks = ["The rows add up to the printed total.", "Each row is that of the policy that the state prints in its place.",
-                  *(f"The groups by {', '.join(keys)} add up to the printed total." for keys, _ in tables)]
+                  *(f"The groups by {keys_text(keys)} add up to the printed total." for keys, _ in tables)]
         told = facts_of(options, valuation.position)
         text = page(f"{told['book']}: {title}", told, valuation, total, tables, heads, checks)
         written_whole(options.html, lambda path: write_text(path, text))

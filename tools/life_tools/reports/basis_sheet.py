@@ -9,6 +9,7 @@ from life_tools.reports.periods import Moment, Period, demand_whole
 from life_tools.journal.policy_columns import is_insured
 from life_tools.valuations.printed_columns import NO_WORDS, ColumnValuation
 from life_tools.reports.sheets import COUNT, TEXT, Column, Sheet
+from life_tools.reports.wording import NOT_VALUED, NO_VALUE
 from life_tools.rules.tables import MADE_PAIDUP
 
 METHODS = {"terminal": "CRVM terminal", "mean": "CRVM mean"}
@@ -57,7 +58,7 @@ def sums_by_basis(period: Period, moment: Moment, minimum: ColumnValuation) -> t
     codes = file * len(NO_WORDS) + rows.word[without]
     for code, sums in sums_by(codes, [column[without] for column in columns]).items():
         name, word = period.asked.bases.names[code // len(NO_WORDS)], NO_WORDS[code % len(NO_WORDS)]
-        put(others if word else found, (name, "", f"no value: {word}", "", ""), sums)
+        put(others if word else found, (name, "", f"{NOT_VALUED}: {NO_VALUE.get(word, word)}", "", ""), sums)
     return found, others
 
 
@@ -97,6 +98,6 @@ def basis_sheet(period: Period) -> Sheet:
         sheet.add(*key, count, amount, None, None, None, section=1)
     sheet.notes = deficiency_notes(period, minimum)
     if others:
-        sheet.notes.append("Policies without a value are in no sum of reserves.")
+        sheet.notes.append("Policies that are not valued are in no sum of reserves.")
     sheet.checks = ["The bounds and the deficiency add up to the printed totals."]
     return sheet

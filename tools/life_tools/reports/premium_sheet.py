@@ -215,7 +215,7 @@ def premium_sheet(period: Period, collected: Collected, uncollected: Uncollected
     without = sum(each.without for each in sums.values())
     sheet.notes = ["Policies in force. Of a collected line the policies are postings. Premium income is what was collected, with "
                    "what is uncollected in grace, less what is paid in advance, each at the end less at the beginning.",
-                   *([f"Policies without a value, so without a net premium, in these lines: {without}"] if without else [])]
+                   *([f"Policies that are not valued, and so have no net premium, in these lines: {without}"] if without else [])]
     sheet.checks = ["What was collected is what the account premiums moved by.",
                     "Each premium paid in advance is posted in the journal at the amount shown."]
     if period.asked.are_parts_kept:

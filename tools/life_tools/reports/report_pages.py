@@ -9,6 +9,7 @@ from life_tools.common.formats import money as plain_money
 from life_tools.valuations.groups import Groups, Sums
 from life_tools.valuations.printed_columns import NO_WORDS, ColumnValuation, Rows
 from life_tools.reports.whole_pages import fact_list, whole_page
+from life_tools.reports.wording import NOT_VALUED, NO_VALUE, group_text, keys_text
 from life_tools.reserves.worked_rows import WORDS
 
 # at most so many policies are listed for each word
@@ -63,12 +64,12 @@ def most_of(tables: Sequence[tuple[Sequence[str], Groups]], place: int) -> int:
     return max((each.bounds[place] for _, groups in tables for each in groups.values()), default=0)
 
 
-def picture(groups: Groups, place: int, most: int) -> str:
+def picture(keys: Sequence[str], groups: Groups, place: int, most: int) -> str:
     """Returns a bar for each group, by one of its sums."""
     lines = ["<div class=\"bars\">"]
     for name, sums in groups.items():
         permille = 1000 * sums.bounds[place] // most if most > 0 else 0
-        lines.append(f"<div class=\"bar\"><span>{escape(', '.join(name))}</span><div><i style=\"width:{permille // 10}."
+        lines.append(f"<div class=\"bar\"><span>{escape(group_text(keys, name))}</span><div><i style=\"width:{permille // 10}."
                      f"{permille % 10}%\"></i></div><span>{money(sums.bounds[place])}</span></div>")
     return "\n".join([*lines, "</div>"])
 
@@ -78,7 +79,7 @@ def facts(valuation: ColumnValuation, total: Sums, heads: Sequence[str]) -> str:
             ("policies", f"{total.policies:,}"), ("of these insured", f"{total.insured:,}"),
             ("amount insured", money(total.amount))]
     told += [(name, money(each)) for name, each in zip(heads, valuation.total)]
-    told.append(("policies without a value, in no sum", apart(str(valuation.words))))
+    told.append((f"policies {NOT_VALUED}, in no sum", apart(str(valuation.words))))
     return "<div class=\"facts\">" + "".join(f"<div><span>{escape(name)}</span><b>{escape(value)}</b></div>"
                                              for name, value in told) + "</div>"
 
@@ -90,10 +91,10 @@ def words_of(rows: Rows) -> str:
         numbers = rows.number[rows.word == NO_WORDS.index(word)]
         if len(numbers):
             more = f" and {len(numbers) - NAMED:,} more" if len(numbers) > NAMED else ""
-            cells.append([word, WORDS[word], f"{len(numbers):,}", ", ".join(map(str, numbers[:NAMED].tolist())) + more])
+            cells.append([NO_VALUE[word], WORDS[word], f"{len(numbers):,}", ", ".join(map(str, numbers[:NAMED].tolist())) + more])
     if not cells:
         return "<p>Each policy has bounds.</p>"
-    return table(["word", "why there is no value", "policies", "numbers"], cells)
+    return table([NOT_VALUED, "why", "policies", "numbers"], cells)
 
 
 def page(title: str, provenance: dict[str, str], valuation: ColumnValuation, total: Sums,
@@ -102,12 +103,12 @@ def page(title: str, provenance: dict[str, str], valuation: ColumnValuation, tot
     parts = [fact_list(provenance),
              "<p>Amounts in the journal's currency. The exact reserve lies between the lower and the upper bound. Bars are the "
              f"{escape(heads[-1])}, all to one scale.</p>", facts(valuation, total, heads)]
-    columns, last = ["policies", "insured", "amount insured", *heads, "without a value"], len(valuation.total) - 1
+    columns, last = ["policies", "insured", "amount insured", *heads, NOT_VALUED], len(valuation.total) - 1
     for keys, groups in tables:
-        parts.append(f"<h2>By {escape(', '.join(keys))}</h2>")
-        parts.append(picture(groups, last, most_of(tables, last)))
-        cells = [[", ".join(name), *map(apart, sums.cells())] for name, sums in groups.items()]
-        parts.append(table([", ".join(keys), *columns], cells, ["total", *map(apart, total.cells())]))
-    parts += ["<h2>Policies without a value</h2>", words_of(valuation.rows), "<h2>Checks that were made</h2><ul>"]
+        parts.append(f"<h2>By {keys_text(keys)}</h2>")
+        parts.append(picture(keys, groups, last, most_of(tables, last)))
+        cells = [[group_text(keys, name), *map(apart, sums.cells())] for name, sums in groups.items()]
+        parts.append(table([keys_text(keys), *columns], cells, ["total", *map(apart, total.cells())]))
+    parts += [f"<h2>Policies {NOT_VALUED}</h2>", words_of(valuation.rows), "<h2>Checks that were made</h2><ul>"]
     parts += [f"<li>{escape(each)}</li>" for each in checks]
     return whole_page(title, STYLE, provenance, [*parts, "</ul>"])

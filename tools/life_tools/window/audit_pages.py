@@ -11,11 +11,11 @@ from life_tools.audit.flags import FLAGS
 from life_tools.common.formats import MOST_COMMANDS, Wrong, money
 from life_tools.journal.day_columns import number_at
 from life_tools.valuations.printed_books import row_of
+from life_tools.reports.wording import STATUS_WORDS
 from life_tools.window.asked import Asked, BadRequest
 from life_tools.window.downloads import csv_parts
 from life_tools.window.find_pages import policy_cell
 from life_tools.window.parts import RIGHT, Answer, Cell, File, Head, Page, Table, cells, heads
-from life_tools.window.policies import STATUSES as STATUS_WORDS
 from life_tools.window.tool_runs import ToolRun, tool_run
 from life_tools.window.views import View
 

@@ -9,11 +9,11 @@ from life_tools.reports.report_pages import money
 from life_tools.tables.basis import NAME
 from life_tools.valuations.groups import KEYS, Sums
 from life_tools.reports import charts
+from life_tools.reports.wording import KEY_WORDS, NOT_VALUED, group_text
 from life_tools.window.asked import Asked, BadRequest, shown
 from life_tools.window.book_copy import TakenBasis
-from life_tools.window.month_pages import KEY_WORDS, asked_valuation
+from life_tools.window.month_pages import asked_valuation
 from life_tools.window.parts import Answer, Cell, Page, Table, cells, heads
-from life_tools.window.policies import STATUSES as STATUS_WORDS
 from life_tools.window.policy_pages import MEASURE_WORDS
 from life_tools.window.valuations import Valuation, kept_valuation, row_of
 from life_tools.window.views import View
@@ -63,7 +63,7 @@ def group_pairs(one: Valuation, two: Valuation, key: str) -> list[Pair]:
     """Returns the sums of each group by both bases. Both have the same policies, and therefore the same groups."""
     first, second = one.groups[key], two.groups[key]
     demand(first.keys() == second.keys(), f"the groups by {key} differ between the bases")
-    return [(", ".join(STATUS_WORDS.get(each, each) for each in name), first[name], second[name]) for name in first]
+    return [(group_text((key,), name), first[name], second[name]) for name in first]
 
 
 Links = tuple[list[str], list[str]]
@@ -77,7 +77,7 @@ def links_of(views: tuple[View, View], it: Valuation, key: str) -> Links:
 
 
 def pair_table(says: str, names: list[str], pairs: list[Pair], links: Links) -> Table:
-    columns = [says, "policies", names[0], names[1], "difference", "without a value", "by the other"]
+    columns = [says, "policies", names[0], names[1], "difference", NOT_VALUED, "by the other"]
 
     def row(name: str, sums: Sequence[int], first: str = "", second: str = "") -> list[Cell]:
         policies, one, two, *words = sums

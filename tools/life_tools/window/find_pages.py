@@ -5,11 +5,11 @@ from typing import Any
 
 from life_tools.common.formats import PLANS, STATUSES
 from life_tools.reports.report_pages import money
+from life_tools.reports.wording import STATUS_WORDS
 from life_tools.window.asked import Asked
 from life_tools.window.lists import A_PAGE, SORTED, WORDS, Sought, found_in, has_policy, sought_in
 from life_tools.window.views import View, paged_words, turns
 from life_tools.window.parts import RIGHT, Answer, Cell, Elsewhere, Head, Page, Table, sorting_head
-from life_tools.window.policies import STATUSES as STATUS_WORDS
 
 COLUMNS = (("policy", "policy", RIGHT), ("status", "status", ""), ("plan", "plan", ""), ("age", "age at issue", RIGHT),
            ("issued", "issued", ""), ("amount", "amount insured", RIGHT), ("premium", "premium", RIGHT),

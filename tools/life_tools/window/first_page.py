@@ -7,13 +7,13 @@ from life_tools.common.arrays import np
 from life_tools.common.formats import MOST_COMMANDS
 from life_tools.reports.report_pages import money
 from life_tools.reports import charts
+from life_tools.reports.wording import NOT_VALUED, STATUS_WORDS
 from life_tools.window.asked import Asked
 from life_tools.window.due_lists import DueOn, due_on
 from life_tools.window.figures import MEASURE, Ahead, Figures, Totals, figures_of, told, totals_of
 from life_tools.window.find_pages import policy_cell
 from life_tools.window.lists import Kind, kinds_of
 from life_tools.window.parts import RIGHT, Answer, Cell, Head, Page, Progress, Table, cells, heads
-from life_tools.window.policies import STATUSES as STATUS_WORDS
 from life_tools.window.standing import waiting_in
 from life_tools.window.views import View
 
@@ -110,7 +110,7 @@ def year_end_picture(book: View, figures: Figures, totals: Totals) -> Picture | 
               charts.Series("amount insured", "c2", [each.insured for each in ends], links)]
     axes = charts.Axes("end of year", [str(each.day.year) for each in ends], "amount")
     says = f"Reserve and amount insured at the ends of {ends[0].day.year} to {ends[-1].day.year}"
-    names = ["year-end", "position", "insured", "amount insured", "lower bound", "upper bound", "without a value"]
+    names = ["year-end", "position", "insured", "amount insured", "lower bound", "upper bound", NOT_VALUED]
     rows = [[Cell(str(each.day), link), *cells((each.position, each.lives, money(each.insured), *told(total)))]
             for each, total, link in zip(ends, totals.found, links)]
     return Picture("Reserve and amount insured by year-end",

@@ -7,13 +7,13 @@ from typing import Sequence
 from life_tools.common.arrays import Array, np
 from life_tools.reports.movement import BASIS, BY_KIND, ISSUES, TIME
 from life_tools.reports.report_pages import apart, money
+from life_tools.reports.wording import KEY_WORDS, NO_VALUE, STATUS_WORDS, group_text
 from life_tools.valuations.groups import KEYS
 from life_tools.window.asked import Asked, BadRequest, shown
 from life_tools.window.find_pages import policy_cell
 from life_tools.window.lists import A_PAGE
-from life_tools.window.month_pages import KEY_WORDS, MOVEMENT_WORDS, asked_movement, asked_valuation, column_names
+from life_tools.window.month_pages import MOVEMENT_WORDS, asked_movement, asked_valuation, column_names
 from life_tools.window.parts import RIGHT, Answer, Cell, Head, Page, Table, cells, counted_policies, heads
-from life_tools.window.policies import STATUSES as STATUS_WORDS
 from life_tools.window.valuations import Valuation
 from life_tools.window.views import View, paged_words, turns
 
@@ -37,7 +37,7 @@ def group(book: View, asked: Asked) -> Answer:
     places = np.flatnonzero(it.codes(key) == list(it.groups[key]).index(name))
     page, pages, some = paged(asked, len(places))
     words: dict[str, object] = {"on": it.on, "measure": it.measure, "by": key, "group": ",".join(name)}
-    says = ", ".join(STATUS_WORDS.get(each, each) for each in name)
+    says = group_text((key,), name)
     sums = it.groups[key][name]
     names = ["policy", "status", "amount", *column_names(it)[3:-1]]
     values = {"table": Table("Policies of the group", [Head(names[0], RIGHT), Head(names[1]), *heads(names[2:], 0)],
@@ -53,7 +53,7 @@ def group_rows(book: View, it: Valuation, places: Array) -> list[list[Cell]]:
     for place in places.tolist():
         row = rows.row(place)
         link = book.link("policy", number=row.number, on=it.on, measure=it.measure if it.measure != "terminal" else "")
-        bounds = [row.word] + [""] * (len(it.total) - 1) if row.word else [money(each) for each in row.bounds]
+        bounds = [NO_VALUE[row.word]] + [""] * (len(it.total) - 1) if row.word else [money(each) for each in row.bounds]
         found.append([Cell(str(row.number), link), Cell(STATUS_WORDS[row.status]), Cell(money(int(policies.amount[place]))),
                       *map(Cell, bounds)])
     return found

@@ -13,6 +13,7 @@ from life_tools.reports.report_pages import apart, money
 from life_tools.common.revisions import revision
 from life_tools.reports.sheets import BY_BOUNDS, HEADS
 from life_tools.reports import charts
+from life_tools.reports.wording import KEY_WORDS, NOT_VALUED, NO_VALUE, group_text
 from life_tools.window import pictures
 from life_tools.window.asked import Asked, BadRequest
 from life_tools.window.downloads import csv_parts, workbook
@@ -20,7 +21,6 @@ from life_tools.valuations.class_bases import measure_words
 from life_tools.window.audit_pages import MEASURES as RESERVES, measure_on
 from life_tools.window.views import View
 from life_tools.window.parts import Answer, Cell, File, Head, Page, Table, cells, heads
-from life_tools.window.policies import STATUSES as STATUS_WORDS
 from life_tools.window.policy_pages import MEASURE_WORDS
 from life_tools.window.tool_runs import ToolRun, tool_run
 from life_tools.window.valuations import Valuation, kept_valuation, words_of
@@ -30,8 +30,6 @@ REPORT_WORDS = ("at", "on", "p", "measure")
 MOVEMENT_WORDS = ("at", "on1", "p1", "on2", "p2", "measure")
 XLSX = "application/vnd.openxmlformats-officedocument.spreadsheetml.sheet"
 NAMED = 20
-KEY_WORDS = {"plan": "plan", "status": "status", "issue-year": "year of issue", "age-band": "age at issue",
-             "basis-row": "row of the basis"}
 
 
 # --- which day, and at which position ---
@@ -73,10 +71,10 @@ def group_table(book: View, it: Valuation, key: str) -> Table:
     rows = []
     for name, sums in groups.items():
         link = book.link("group", on=it.on, measure=it.measure, by=key, group=",".join(name))
-        says = ", ".join(STATUS_WORDS.get(each, each) for each in name)
+        says = group_text((key,), name)
         rows.append([Cell(says, link), *(Cell(apart(text), link) for text in sums.cells()),
                      Cell("", picture=pictures.bar(sums.bounds[-1], most))])
-    names = (KEY_WORDS[key], *column_names(it)[:-1], "without a value")
+    names = (KEY_WORDS[key], *column_names(it)[:-1], NOT_VALUED)
     return Table(f"By {KEY_WORDS[key]}", [*heads(names), Head("", "bar")], rows,
                  [[Cell("added up"), *cells(it.whole.cells()), Cell("")], printed_row(it)])
 
@@ -89,7 +87,7 @@ def printed_row(it: Valuation) -> list[Cell]:
 def report(book: View, asked: Asked) -> Answer:
     it = asked_valuation(book, asked)
     words = {"on": it.on, "measure": it.measure if it.measure != "terminal" else ""}
-    missing = [(word, WHY_NO_VALUE.get(word, ""), count, numbers) for word, count, numbers in words_of(it, NAMED)]
+    missing = [(NO_VALUE[word], word, WHY_NO_VALUE[word], count, numbers) for word, count, numbers in words_of(it, NAMED)]
     later = int(np.count_nonzero(book.policies().issued > number_at(it.on)))
     values = {"it": it, "facts": facts(it), "later": later, "compare": book.other_bases(),
               "tables": [group_table(book, it, key) for key in it.groups],
@@ -105,7 +103,7 @@ def facts(it: Valuation) -> list[tuple[str, str, bool]]:
     """Returns the main figures, and whether the program printed each of them."""
     found = [("policies", f"{it.policies:,}", True), ("amount insured", money(it.whole.amount), False)]
     found += [(name, money(cents), True) for name, cents in zip(HEADS[len(it.total)], it.total)]
-    return [*found, ("policies without a value, in no sum", f"{it.words:,}", True)]
+    return [*found, (f"policies {NOT_VALUED}, in no sum", f"{it.words:,}", True)]
 
 
 def file_name(it: Valuation) -> str:
@@ -130,7 +128,8 @@ def report_xlsx(book: View, asked: Asked) -> Answer:
     it = asked_valuation(book, asked)
     sheets = [("about", about(book, it))]
     for key, groups in it.groups.items():
-        rows = [[KEY_WORDS[key], *column_names(it)], *([", ".join(name), *sums.cells()] for name, sums in groups.items())]
+        rows = [[KEY_WORDS[key], *column_names(it)[:-1], NOT_VALUED],
+                *([group_text((key,), name), *sums.cells()] for name, sums in groups.items())]
         sheets.append((KEY_WORDS[key], [*rows, ["total", *it.whole.cells()]]))
     return File(f"{file_name(it)}.xlsx", XLSX, workbook(sheets))
 

@@ -10,6 +10,7 @@ from life_tools.common.formats import LAST_DAY, MOST_VALUATIONS, demand
 from life_tools.journal.file import file_of
 from life_tools.valuations.printed_books import ValuedRow, row_of
 from life_tools.reports.report_pages import money
+from life_tools.reports.wording import STATUS_WORDS
 from life_tools.rules.policies import GRACE, Policy, anniversary, booking_of, due_of, end_of, payments_of, years_of
 from life_tools.window.due_lists import Item
 from life_tools.window.jobs import Job
@@ -19,8 +20,6 @@ from life_tools.window.tables import steps_of
 
 PLANS = {"term": "Term insurance", "whole": "Whole life insurance", "endowment": "An endowment",
          "limited": "Whole life insurance on limited premiums"}
-STATUSES = {"inforce": "in force", "lapsed": "lapsed", "claimed": "claimed", "matured": "matured", "expired": "expired",
-            "settled": "settled", "paidup": "paid up"}
 
 
 class Step(NamedTuple):
@@ -74,7 +73,7 @@ def standing_of(policy: Policy) -> str:
     then = (f"; the next is due on {due} and can be paid until {due + GRACE}" if due
             else "; none is to come" if policy.status == "inforce" else "")
     left = f"; {money(policy.outstanding)} is outstanding" if policy.outstanding else ""
-    return f"{STATUSES[policy.status].capitalize()}: {paid}{then}{left}. Its last posting is of {policy.last}."
+    return f"{STATUS_WORDS[policy.status].capitalize()}: {paid}{then}{left}. Its last posting is of {policy.last}."
 
 
 DUE_WORDS = {

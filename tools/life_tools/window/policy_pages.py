@@ -8,6 +8,7 @@ from typing import Any
 from life_tools.common.formats import MEASURES, MOST_NUMBER
 from life_tools.valuations.printed_books import ValuedRow
 from life_tools.reports.report_pages import money
+from life_tools.reports.wording import NO_VALUE, STATUS_WORDS
 from life_tools.rules.policies import completed
 from life_tools.tables.basis import read_basis
 from life_tools.window import pictures
@@ -16,7 +17,7 @@ from life_tools.window.due_lists import of_policy
 from life_tools.window.formulas import Explained, explained
 from life_tools.window.views import View
 from life_tools.window.parts import RIGHT, Answer, Cell, Head, Page, Table, cells, heads
-from life_tools.window.policies import STATUSES, Known, curve_of, due_words, policy_at, standing_of, terms_of
+from life_tools.window.policies import Known, curve_of, due_words, policy_at, standing_of, terms_of
 from life_tools.window.valuations import kept_valuation, row_of
 
 WORDS = ("at", "number", "on", "day", "measure")
@@ -78,8 +79,8 @@ def reserve_of(book: View, known: Known, on: datetime.date, measure: str) -> dic
     rates = Table("Rates of death", heads(("year", "age", "rate"), 0), [cells((it[0] + 1, *it[1:])) for it in worked.rates])
     bounds = [(name, money(cents)) for name, cents in zip(names, row.bounds)]
     others = book.other_bases() if measure != "deficiency" else []
-    return {"row": row, "status": STATUSES[row.status], "bounds": bounds, "worked": worked, "rates": rates,
-            "other_bases": others}
+    return {"row": row, "no_value": NO_VALUE.get(row.word, ""), "status": STATUS_WORDS[row.status], "bounds": bounds,
+            "worked": worked, "rates": rates, "other_bases": others}
 
 
 def picture_of(book: View, known: Known, on: datetime.date | None) -> dict[str, Any]:

@@ -11,12 +11,12 @@ from life_tools.journal.policy_columns import is_insured
 from life_tools.journal.records import ALTER, CLAIM, ISSUE, LAPSE, MATURE, PAIDUP, PREMIUM, REINSTATE, SETTLE
 from life_tools.reports import claim_sheet, exhibits, premium_sheet
 from life_tools.reports.report_pages import apart, money
+from life_tools.reports.wording import STATUS_WORDS
 from life_tools.window.asked import Asked, BadRequest, shown
 from life_tools.window.find_pages import policy_cell
 from life_tools.window.group_pages import paged
 from life_tools.window.history import History
 from life_tools.window.parts import RIGHT, Answer, Cell, Head, Page, Table, cells, counted_policies
-from life_tools.window.policies import STATUSES as STATUS_WORDS
 from life_tools.window.posting_pages import posted_cells
 from life_tools.window.statement_pages import TITLES, asked_words, written
 from life_tools.window.views import View, paged_words, turns
