@@ -1,6 +1,8 @@
 """Tests monetary unit samples: samples worked out by hand, how often rows are drawn, and the papers and letters on a sample."""
+import hashlib
 import re
 from fractions import Fraction
+from pathlib import Path
 from random import Random
 
 import pytest
@@ -57,10 +59,35 @@ def test_a_seed_draws_the_same_rows() -> None:
     assert draw([5, 7, 9, 200], 2, 11) == draw([5, 7, 9, 200], 2, 11)
 
 
-def test_the_start_is_by_the_rule_that_the_guide_gives() -> None:
-    """The SHA-256 of the seed's digits, as a number, modulo the total."""
+RULE = ("The starting point is the SHA-256 of the seed, modulo the total in cents and then divided by the number of rows asked "
+        "for")
+
+
+def rows_by_the_rule(sizes: list[int], asked: int, seed: int) -> list[int]:
+    """Returns the places of the rows in which a point lies, if the first point is the starting point of the rule."""
+    total = sum(sizes)
+    start = Fraction(int(hashlib.sha256(str(seed).encode()).hexdigest(), 16) % total, asked)
+    points = [start + Fraction(total, asked) * place for place in range(asked)]
+    ends = [sum(sizes[:place + 1]) for place in range(len(sizes))]
+    return sorted({next(place for place, end in enumerate(ends) if point < end) for point in points})
+
+
+def test_the_start_is_by_the_rule_that_the_guide_gives(root: Path) -> None:
+    assert RULE in " ".join((root / "docs/howto/auditor.md").read_text(encoding="utf-8").split())
+    # the SHA-256 of "7"
     of_seven = 0x7902699be42c8a8e46fbbb4501726517e86b22c56a189f7625a6da49081b2451
     assert draw([5, 7, 9, 200], 2, 7).start == of_seven % 221
+    for seed in range(200):
+        for sizes, asked in (([5, 7, 9, 200], 2), ([50, 60, 70, 80, 0, 90], 4)):
+            assert draw(sizes, asked, seed).places == rows_by_the_rule(sizes, asked, seed), (sizes, asked, seed)
+
+
+def test_a_printed_sample_names_its_start(small_office: Folder) -> None:
+    """By hand: 1418.86 and 2656.23, and the amounts 15000.00, 9000.00 and 50000.00."""
+    for words, total in (((), 407509), (("--by", "amount"), 7400000)):
+        fields = small_office.printed("audit", "sample", "1", "--seed", "7", *ON, *words).splitlines()[1].split(",")
+        wanted = int(hashlib.sha256(b"7").hexdigest(), 16) % total
+        assert fields[4:6] == [str(total), str(wanted)], fields
 
 
 def test_a_row_of_just_the_interval_is_certain() -> None:

@@ -96,7 +96,78 @@ def test_report_tells_policies_issued_after_the_day(office: Folder) -> None:
     assert "issued after" not in office.tools("report", "2020-12-31", "--at", "24").err
 
 
+# Policy 1 dies in 2021 and is settled then; policy 2 dies in 2020 and is settled in 2021; policy 3 lapsed in 2020.
+DEATHS = """1,issue,1,2020-01-15,whole,30,0,1000.00,20.00
+1,premium,1,2020-01-15,20.00
+1,issue,2,2020-01-15,whole,30,0,1000.00,20.00
+1,premium,2,2020-01-15,20.00
+1,issue,3,2020-01-15,whole,30,0,1000.00,20.00
+1,lapse,3,2020-03-01
+1,claim,2,2020-12-01
+1,claim,1,2021-02-01
+1,settle,1,2021-02-10,1000.00
+1,settle,2,2021-03-01,1000.00
+"""
+
+
 def test_movement_says_what_counts_on_which_line(office: Folder) -> None:
-    printed = office.printed("movement", *MOMENTS)
+    """By hand: of the two settlements, one follows a claim of the period; the settled and the lapsed policies count at both
+    ends."""
+    office.journal.unlink()
+    office.post(DEATHS)
+    printed = office.printed("movement", "2020-12-31", "7", "2021-12-31", "10")
     assert "after a claim or maturity of the period, its settlement" in printed
     assert "all that were ever issued, whatever their status" in printed
+    counts = dict(re.findall(r"^(\w[\w ]*\w) {2,}([0-9]+) ", printed, re.M))
+    assert (counts["claims"], counts["settlements"]) == ("1", "1"), printed
+    assert counts["opening reserve"] == counts["closing reserve"] == "3", printed
+
+
+# --- what the help says of a statement ---
+
+LIFE = "1,issue,1,2018-01-15,whole,30,0,1000.00,20.00\n1,premium,1,2018-01-15,20.00\n1,premium,1,2018-12-01,20.00\n"
+
+
+def increase(office: Folder, day: str, *moments: str) -> str:
+    """Returns the increase in reserves of a book in which the policy is claimed on a day, at position 4."""
+    office.journal.unlink(missing_ok=True)
+    office.post(LIFE + f"1,claim,1,{day}\n")
+    sheets = f"{day}-to-{moments[2]}"
+    office.printed("statement", *moments, "--csv", sheets)
+    return office.read(f"{sheets}/increase.csv")
+
+
+def test_the_help_says_on_which_day_a_posting_of_another_period_counts(office: Folder) -> None:
+    """A claim dated after DAY2 has the same increase as one on DAY2, and one dated before DAY1 the same as one on DAY1. A year
+    begins on 2019-01-15, so each pair of days has that day between them."""
+    told = " ".join(office.printed("statement", "--help").split())
+    assert ("In the increase in reserves a posting dated after DAY2 counts on DAY2, and a posting dated before DAY1, of a policy "
+            "that was there at P1, counts on DAY1.") in told
+    later = ("2018-06-30", "3", "2018-12-31", "4")
+    assert increase(office, "2019-02-01", *later) == increase(office, "2018-12-31", *later)
+    earlier = ("2019-06-30", "3", "2019-12-31", "4")
+    assert increase(office, "2019-01-10", *earlier) == increase(office, "2019-06-30", *earlier)
+
+
+def test_the_examples_of_a_year_end_have_mean_reserves(office: Folder) -> None:
+    told = office.printed("statement", "--help")
+    examples = re.findall(r"^ +life-tools statement (.*)$", told, re.M)
+    assert examples and all(" --mean" in each for each in examples if each.split()[2].endswith("-12-31")), examples
+    assert "which are also taken if neither is given" in " ".join(told.split())
+
+
+# --- the minimum ---
+
+@pytest.mark.parametrize("page", ["docs/proof/definitions.md", "docs/explanation/reserves.md"])
+def test_the_pages_say_what_the_minimum_is(root: Path, page: str) -> None:
+    text = " ".join(re.sub(r"[$`\\]", "", (root / page).read_text(encoding="utf-8")).split())
+    assert re.search("takes beta for the net premium of the first year too, and it is the minimum of the law only if "
+                     "(basis.csv|the basis) is the law's minimum standard", text), page
+
+
+def test_the_minimum_takes_beta_for_the_first_year(table_q: Folder) -> None:
+    """By hand (docs/explanation/reserves.md): 1 - 0.4 * 2.62 is below 0, so on the day of issue the minimum is 0. By the net
+    premium of the first year, 0.484874 - 0.270370, it would be 1 - 0.214504 - 0.4 * 1.62 = 0.137496."""
+    table_q.post("1,issue,7001,2020-01-01,endowment,0,3,1000.00,400.00\n")
+    rows = [table_q.printed("value", day, "--deficiency").splitlines()[1] for day in ("2020-01-01", "2021-01-01")]
+    assert rows == ["row,7001,inforce,0,0.00,0.00,0.00,0.00,short", "row,7001,inforce,1,127.22,127.23,280.00,280.00,short"]
