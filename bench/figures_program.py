@@ -10,7 +10,8 @@ from collections.abc import Iterator
 from functools import partial
 
 from life_tools.common.arrays import np
-from timing import (DISK, LONGEST, MEMORY, MILLION, ROOT, ROUNDS, Folder, Row, Run, alike, below_watcher, drawn, figure, in_turn,
+from tests.support.big_journals import alike
+from timing import (DISK, LONGEST, MEMORY, MILLION, ROOT, ROUNDS, Folder, Row, Run, below_watcher, drawn, figure, in_turn,
                     issue_lines, life, median, need_right, paid)
 
 BOOK, POSTINGS, TRIMS, MANY = 100_000, 3000, 400_000, 300_000

@@ -14,11 +14,11 @@ from life_tools.common.arrays import Array, np
 from life_tools.journal.day_columns import anniversaries
 from life_tools.journal.records import ISSUE, PREMIUM
 from life_tools.rules.tables import PLAN_CODES
+from tests.support.big_journals import DAY, alike, records, write_records
 from tests.support.clusters import Cluster
 from tests.support.program import Program
 from tests.support.windows import Window, installed
-from timing import (DAY, DISK, MEMORY, MILLION, ROOT, Folder, Row, alike, drawn, figure, issue_lines, journal_of, life, paid,
-                    records)
+from timing import DISK, MEMORY, MILLION, ROOT, Folder, Row, drawn, figure, issue_lines, life, paid
 
 psutil: Any = importlib.import_module("psutil")
 
@@ -173,7 +173,7 @@ def write_book(folder: Folder, place: int, policies: int, commands: int = 16) ->
     """Writes a book into a folder of its own, and returns its row of the list. One book has a basis of another name."""
     name, basis = f"book{place + 1}", "other.csv" if place == 1 else "basis.csv"
     (folder.path / name).mkdir()
-    (folder.path / name / "journal.life").write_bytes(journal_of(years_of(place, policies, commands)))
+    write_records(folder.path / name / "journal.life", years_of(place, policies, commands))
     folder.write(f"{name}/{basis}", [f"1900-01-01,g.xml,{350 if place == 1 else 400}"])
     shutil.copy(folder.path / "g.xml", folder.path / name)
     return f"{name},{name},{basis}"

@@ -22,9 +22,10 @@ from pathlib import Path
 from typing import Any, NamedTuple, TypeVar
 
 from life_tools.common.arrays import Array, np
-from life_tools.journal.file import EMPTY, FIRST_GATE, RECORD_SIZE
-from life_tools.journal.records import ISSUE, PREMIUM, RECORD
+from life_tools.journal.file import FIRST_GATE, RECORD_SIZE
+from life_tools.journal.records import ISSUE, PREMIUM
 from life_tools.rules.tables import PLAN_CODES
+from tests.support.big_journals import DAY, records, write_records
 
 ROOT = Path(__file__).resolve().parent.parent
 # a process that was started at a real-time priority of its own times at that priority, if other work has the lowest one
@@ -35,7 +36,7 @@ MEMORY = "/dev/shm" if os.path.isdir("/dev/shm") else DISK
 ROUNDS = int(os.environ.get("ROUNDS", "5"))
 MILLION, LONGEST = 1_000_000, 16 * 1024 * 1024
 LAST_NUMBER = 4294967295
-FIRST_DAY, DAY = 10957, 18262
+FIRST_DAY = 10957
 
 Value = TypeVar("Value")
 # what is measured, the figure, and what it is compared with
@@ -99,24 +100,6 @@ def in_turn(rounds: int, ways: Mapping[Any, Callable[[], float]]) -> dict[Any, f
 
 # --- journals ---
 
-def records(count: int, **fields: Any) -> Array:
-    made = np.zeros(count, RECORD)
-    for name, value in {"gate": 1, **fields}.items():
-        made[name] = value
-    return made
-
-
-def journal_of(some: Array) -> bytes:
-    # numpy joins records in the byte order of the machine
-    return bytes(EMPTY[:FIRST_GATE] + some.astype(RECORD).tobytes() + b"\0")
-
-
-def alike(numbers: Array) -> Array:
-    """Returns issues that differ only in their numbers."""
-    return records(len(numbers), kind=ISSUE, plan=PLAN_CODES["endowment"], years=3, number=numbers, day=DAY, amount=100000,
-                   premium=40000)
-
-
 def drawn(count: int) -> Array:
     """Returns issues with consecutive numbers, in the ranges in which `life generate` draws."""
     draw = np.random.default_rng(1)
@@ -149,7 +132,7 @@ class Folder:
         shutil.copy(ROOT / "examples" / "g.xml", self.path)
         self.write("basis.csv", ["1900-01-01,g.xml,400"])
         if some is not None:
-            self.journal.write_bytes(journal_of(some))
+            write_records(self.journal, some)
         os.sync()
 
     def write(self, name: str, lines: Iterable[str]) -> None:

@@ -10,14 +10,12 @@ from contextlib import contextmanager, suppress
 from pathlib import Path
 from typing import Callable, Iterator, Mapping, Sequence
 
-from tests.support.program import ROOT
 from tests.support.tools import Ended
 
 PATIENCE = 60
 # a shell may lose a signal that comes while it starts a command; so another one is sent after this time
 SECONDS_TO_ANOTHER_SIGNAL = 10
 ENDS_BY_CTRL_C = ("env", "--default-signal=INT")
-EXAMPLE = ROOT / "examples" / "first-issues"
 
 
 def issue(number: int) -> str:

@@ -1,16 +1,11 @@
-"""Draws a book whose policies have lived: premiums paid in time or not, and every other kind of command.
-
-usage: python3 lived_books.py SEED POLICIES, which writes journal.life into the current folder
-"""
+"""Draws a book whose policies have lived: premiums paid in time or not, and every other kind of command."""
 from __future__ import annotations
 
 import datetime
 import random
-import sys
 from typing import NamedTuple
 
 from life_tools.rules.commands import UPGRADE, Command
-from life_tools.journal.file import file_of
 from tests.rules.policies import Policy, decide
 
 LEAP_YEARS = (2000, 2004, 2008, 2012, 2016, 2020)
@@ -88,12 +83,3 @@ def lived_by(draw: random.Random, policies: int, times: Times = Times()) -> list
     commands.sort(key=lambda command: str(command.day))
     place = next((place for place, it in enumerate(commands) if it.day and it.day >= times.upgraded), len(commands))
     return [*commands[:place], UPGRADE, *commands[place:]]
-
-
-def main() -> None:
-    with open("journal.life", "wb") as file:
-        file.write(file_of(lived(int(sys.argv[1]), int(sys.argv[2]))))
-
-
-if __name__ == "__main__":
-    main()
