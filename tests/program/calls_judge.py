@@ -1,79 +1,42 @@
 """Judges the records that strace made of small runs: calls on the folder, the two files and the output.
 
-A record becomes a list of such calls, each with what was written and where. In order and number, the list must be exactly what
-the journal and its checkpoint allow. No line that reports a posting may be written before the posting's record is safe.
+In order and number, the calls must be exactly what the journal and its checkpoint allow. No line that reports a posting may be
+written before the posting's record is safe.
 """
 import re
-from collections.abc import Iterator
 from pathlib import Path
-from typing import Any
+
+from tests.program.traces import calls_of
+
+ROLES = {".": "folder", "journal.life": "journal", "checkpoint.life": "checkpoint", "output": "output"}
 
 
-def part(pattern: str, text: str) -> tuple[str, ...]:
-    """Returns the groups of a pattern that must match somewhere in a text."""
-    found = re.search(pattern, text)
-    if not found:
-        raise AssertionError(f"a call that isn't read: {text}")
-    return found.groups("")
-
-
-def whole(record: Path) -> Iterator[Any]:
-    """Yields the calls of a record. A call that is interrupted by a line of another thread counts at the place where it ends,
-    but a write to the output counts where it begins."""
-    begun = {}
-    for line in record.read_text(encoding="ascii").splitlines():
-        thread, call = line.split(None, 1)
-        if call.endswith(" <unfinished ...>"):
-            begun[thread] = call.removesuffix(" <unfinished ...>")
-            if begun[thread].startswith("write(1,"):
-                yield f"{thread} {begun[thread]}) = 1"
-            continue
-        resumed = re.match(r"<\.\.\. \w+ resumed>(.*)", call)
-        if resumed:
-            call = begun.pop(thread) + resumed[1]
-            if call.startswith("write(1,"):
-                continue
-        yield f"{thread} {call}"
-
-
-def calls(record: Path) -> Any:
+def calls(record: Path) -> list[str]:
     """Returns the calls on the folder, the two files and the output, each with what it wrote and where."""
-    roles, found = {}, []
-    for line in whole(record):
-        call = re.match(r"\d+ +(\w+)\((.*)\) += (-?\d+)", line)
-        if not call:
+    found = []
+    for call in calls_of(record):
+        role = ROLES.get(call.file)
+        if role is None or call.word in ("pread64", "read") or (call.word == "close" and role == "output"):
             continue
-        word, args, result = call[1], call[2], int(call[3])
-        if word == "openat":
-            path = bytes.fromhex(part(r'"((?:\\x[0-9a-f]{2})*)"', args)[0].replace("\\x", "")).decode()
-            roles[result] = {".": "folder", "journal.life": "journal", "checkpoint.life": "checkpoint"}.get(path, "other")
-            if roles[result] != "other":
-                found.append(f"{'open' if result >= 0 else 'refused'} {roles[result]}")
-            continue
-        fd = int(args.split(",")[0])
-        role = "output" if fd == 1 else roles.get(fd, "other")
-        if role == "other" or word in ("pread64", "read") or (word == "close" and role == "output"):
-            continue
-        if word == "pwrite64":
-            text, size, at = part(r'"((?:\\x[0-9a-f]{2})*)"(?:\.\.\.)?, (\d+), (\d+)$', args)
-            written = bytes.fromhex(text.replace("\\x", ""))
-            if result != int(size):
-                raise AssertionError(f"a short write: {line}")
-            found.append(f"write {role} {at} {written.hex()}")
-        elif word == "flock":
-            found.append(f"lock {role} {args.split(', ')[1]}")
+        if call.word == "openat":
+            found.append(f"{'open' if call.answer >= 0 else 'refused'} {role}")
+        elif call.word == "pwrite64":
+            size, at = call.numbers
+            assert call.answer == size, f"a short write: {call}"
+            found.append(f"write {role} {at} {call.data.hex()}")
+        elif call.word == "flock":
+            found.append(f"lock {role} {call.args.split(', ')[1]}")
         elif role == "output":
-            printed = bytes.fromhex(part(r'"((?:\\x[0-9a-f]{2})*)"', args)[0].replace("\\x", ""))
-            found.append(f"write output {printed.count(b',accepted,')}")
+            found.append(f"write output {call.data.count(b',accepted,')}")
         else:
-            found.append(f"{word} {role}")
+            found.append(f"{call.word} {role}")
     return found
 
 
 HELD = ["open folder"] * 3
 
 
-def opened(file: Any) -> Any:
+def opened(file: str) -> list[str]:
     return [f"open {file}", f"lock {file} LOCK_EX|LOCK_NB", "open folder", "fsync folder", "close folder", f"fsync {file}"]
 
 
@@ -114,16 +77,16 @@ def judge_run(record: Path, wanted: list[str], accepted: int) -> None:
     """Judges a run that writes its lines while it goes on: no line may report a posting before the posting's commit byte is
     safe."""
     made = calls(record)
-    told = safe = gate = 0
+    shown = safe = gate = 0
     for place, call in enumerate(made):
         if call.startswith("write output "):
-            told += int(call.split()[2])
-            assert told <= safe, f"call {place}: {told} accepted postings are told, and {safe} are safe"
+            shown += int(call.split()[2])
+            assert shown <= safe, f"call {place}: {shown} accepted postings are printed, and {safe} are safe"
         elif call.startswith("write journal "):
             gate = bool(re.fullmatch(r"write journal \d\d+ 01", call))
         elif call == "fsync journal":
             safe, gate = safe + gate, 0
-    assert told == accepted, f"the run tells of {told} accepted postings"
+    assert shown == accepted, f"the run prints {shown} accepted postings"
     compare([call for call in made if not call.startswith("write output ")],
             [call for call in wanted if call != "write output"])
 

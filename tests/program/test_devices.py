@@ -10,8 +10,9 @@ from pathlib import Path
 
 import pytest
 
-from tests.program.device_records import Call, Wrong, calls_of, changed, judge
+from tests.program.device_records import Wrong, changed, judge
 from tests.program.office import FOREIGN, example
+from tests.program.traces import Call, calls_of
 from tests.support.folders import Folder
 
 SCRIPT = (Path(__file__).resolve().parents[2] / "examples" / "first-minute.csv").read_bytes()
