@@ -12,6 +12,7 @@ from hypothesis import strategies as st
 from life_tools.audit.sampling import draw, draw_at
 from tests.support.folders import Folder
 from tests.support.missing import need
+from tests.support.shown import demand_offline, plain
 
 SEEDS = 10_000
 # so many standard deviations that none of some hundred rows lies further from the expected count by chance
@@ -183,19 +184,17 @@ def test_papers_of_another_sample(sample: Folder, old: str, new: str, says: str)
     sample.refused("audit", "papers", "other", "--html", "written", says=says, status=1)
 
 
-def shown(text: str) -> str:
-    return " ".join(re.sub("<[^>]*>", " ", re.sub("(?s)<style>.*?</style>", "", text)).split())
-
-
 def test_papers(sample: Folder) -> None:
     sample.printed("audit", "papers", "sample", "--html", "page.html")
     page = sample.read("page.html")
-    assert not re.search("https?:|src=|@import", page), "the page asks for something of the network"
-    said = shown(page)
+    demand_offline(page)
+    seal = sample.printed("seal", "--at", "11")
+    prefix, = (line.removeprefix("front,") for line in seal.splitlines() if line.startswith("front,"))
+    assert prefix in page
     for words in ("drawn 4,075.09 4,075.07 4,075.09", "14 1,418.86 certain 1,418.85 1,418.86 right",
                   "printed: 2656.22,2656.23: the same", "start [0-9.]* / 3", "4 premium,13,2021-03-15,2950.00",
                   "Basis row 3: from 2020-02-01, g.xml, 400 basis points", "made [0-9-]* [0-9:]* UTC"):
-        assert re.search(words, said), words
+        assert re.search(words, plain(page)), words
 
 
 @pytest.mark.browser
@@ -203,10 +202,3 @@ def test_papers_as_pdf(sample: Folder) -> None:
     need("pdftotext")
     sample.printed("audit", "papers", "sample", "--pdf", "papers.pdf")
     assert "printed: 1418.85,1418.86: the same" in sample.command("pdftotext", "-layout", "papers.pdf", "-")
-
-
-def test_the_papers_name_the_books_seal(sample: Folder) -> None:
-    sample.printed("audit", "papers", "sample", "--html", "page.html")
-    seal = sample.printed("seal", "--at", "11")
-    prefix, = (line.removeprefix("front,") for line in seal.splitlines() if line.startswith("front,"))
-    assert prefix in sample.read("page.html")

@@ -28,6 +28,7 @@ from tests.support.folders import Folder
 from tests.support.lived_books import lived
 from tests.support.made_books import lay_basis
 from tests.support.program import ROOT
+from tests.support.shown import cents
 
 DIVISIONS = [["numbers=1-20", "numbers=21-40", "others"], ["years=1999-2004", "years=2005-"], ["class=even", "class=odd"]]
 ON = "2013-07-28"
@@ -52,10 +53,10 @@ def summed(lines_of_books: Iterable[list[str]], begins: str) -> tuple[list[str],
             if head == begins:
                 policies.append(line)
             elif head == "balance":
-                sums[head, fields[0]] += int(fields[1].replace(".", ""))
+                sums[head, fields[0]] += cents(fields[1])
             elif head == "total":
                 for place, field in enumerate(fields):
-                    sums[head, place] += int(field.replace(".", ""))
+                    sums[head, place] += cents(field)
     return sorted(policies), dict(sums)
 
 

@@ -10,6 +10,7 @@ import pytest
 from life_tools.journal.file import file_of
 from tests.support.folders import Folder
 from tests.support.lived_books import lived
+from tests.support.shown import cents, money
 
 TABLES = ("command", "booking", "policy", "valuation", "valued")
 Tables = dict[str, list[dict[str, Any]]]
@@ -38,10 +39,6 @@ DAYS = {
     "805": ("2111-03-10", "2111-03-10", None, None),
 }
 VALUATIONS = (["2022-12-31"], ["2023-12-31", "--mean"], ["2024-03-12", "--deficiency"])
-
-
-def money(cents: int) -> str:
-    return f"{'-' if cents < 0 else ''}{abs(cents) // 100}.{abs(cents) % 100:02}"
 
 
 def tables_of_sqlite(path: Path) -> Tables:
@@ -75,16 +72,16 @@ def state_lines(tables: Tables) -> Iterator[str]:
 
 def entries(tables: Tables) -> Iterator[str]:
     for it in tables["command"]:
-        cents = [None if it[name] is None else money(it[name]) for name in ("amount_cents", "premium_cents")]
-        held = [value for value in (it["plan"], it["age"], it["years"], *cents) if value is not None]
+        amounts = [None if it[name] is None else money(it[name]) for name in ("amount_cents", "premium_cents")]
+        held = [value for value in (it["plan"], it["age"], it["years"], *amounts) if value is not None]
         yield row(it["position"], it["kind"], it["policy"], it["day"], *held)
 
 
 def valued_rows(tables: Tables) -> Iterator[str]:
     for it in tables["valued"]:
-        cents = [None if it[name] is None else money(it[name]) for name in
-                 ("lower_cents", "upper_cents", "minimum_lower_cents", "minimum_upper_cents")]
-        shown = [value for value in (*cents[:2], it["word"], *cents[2:], it["premium_is"]) if value is not None]
+        amounts = [None if it[name] is None else money(it[name]) for name in
+                   ("lower_cents", "upper_cents", "minimum_lower_cents", "minimum_upper_cents")]
+        shown = [value for value in (*amounts[:2], it["word"], *amounts[2:], it["premium_is"]) if value is not None]
         yield row(it["day"], it["position"], it["measure"], "row", it["policy"], it["status"], it["year"], *shown)
         assert it["plan"] and it["issued"]
 
@@ -130,7 +127,7 @@ def test_sums_by_sqlite_are_the_printed_totals(office: Folder) -> None:
     with sqlite3.connect(office.path / "book.db") as database:
         found = list(database.execute("select sum(lower_cents), sum(upper_cents) from valued group by measure order by day"))
     totals = [line.split(",") for line in office.read("printed").splitlines() if line.startswith("total,")]
-    assert found == [(int(total[1].replace(".", "")), int(total[2].replace(".", ""))) for total in totals]
+    assert found == [(cents(total[1]), cents(total[2])) for total in totals]
 
 
 def test_the_tables_of_a_drawn_book(folder: Folder) -> None:
@@ -140,10 +137,6 @@ def test_the_tables_of_a_drawn_book(folder: Folder) -> None:
 
 
 @pytest.mark.parametrize(("words", "says"), {
-    "sqlite cut.life new": "badjournal,badrecord,1: record 1: it is cut short",
-    "csv cut.life": "badjournal,badrecord,1: record 1: it is cut short",
-    "sqlite printed new": "badjournal,notajournal",
-    "sqlite nowhere.life new": "No such file",
     "sqlite journal.life basis.csv": "basis.csv is there already",
     "sqlite journal.life nowhere/book.db": "is no folder",
     "sqlite journal.life new --valuation nowhere": "No such file",
@@ -154,7 +147,6 @@ def test_the_tables_of_a_drawn_book(folder: Folder) -> None:
 }.items())
 def test_refused(office: Folder, words: str, says: str) -> None:
     lines = office.read("printed").splitlines(keepends=True)
-    office.write("cut.life", office.journal.read_bytes()[:100])
     office.write("transcript", "1,trim,0\n")
     office.write("wrong-total", re.sub("^total,[^,]*,", "total,1.00,", "".join(lines), flags=re.M))
     office.write("no-total", "".join(lines[:3]))

@@ -38,13 +38,10 @@ def test_the_records_of_a_policy_are_those_of_state(small_office: Folder) -> Non
 
 @pytest.mark.parametrize("position", [0, 1, 11, 26, 27])
 def test_the_book_as_it_was_is_that_of_the_first_postings_alone(small_office: Folder, position: int) -> None:
+    """So is a valuation of it."""
     before = small_office.below("before")
     before.post("".join(f"1,{row.split(',', 1)[1]}\n" for row in records(small_office)[:position]))
     assert small_office.printed("at", str(position), "state") == before.life("state").out
-
-
-@pytest.mark.parametrize("position", [0, 1, 11, 26, 27])
-def test_a_valuation_at_a_position_is_the_programs(small_office: Folder, position: int) -> None:
     wanted = small_office.life("value", "2024-03-12", "--at", str(position), "--mean").out
     assert small_office.printed("at", str(position), "value", "2024-03-12", "--mean") == wanted
 
@@ -65,11 +62,6 @@ def test_an_export_as_csv_is_what_state_prints(small_office: Folder) -> None:
 def test_an_export_as_json_has_each_record(small_office: Folder) -> None:
     rows = [json.loads(line) for line in small_office.printed("export", "jsonl", "journal.life").splitlines()]
     assert sum(row["policy"] == 14 for row in rows) == len(entries(small_office, "14"))
-
-
-def test_an_export_into_a_file_that_is_there(small_office: Folder) -> None:
-    small_office.printed("export", "sqlite", "journal.life", "journal.db")
-    small_office.refused("export", "sqlite", "journal.life", "journal.db", says="there already")
 
 
 def test_a_checkpoint_that_is_longer_than_the_journal(small_office: Folder) -> None:

@@ -16,6 +16,7 @@ from life_tools.tables.basis import BasisRow
 from tests.rules.policies import Book, Policy, anniversary, completed
 from tests.support.drawn_scripts import for_tools
 from tests.support.folders import Folder
+from tests.support.shown import cents
 
 
 def rows_of(sheet: Any) -> Any:
@@ -26,7 +27,7 @@ def printed_total(folder: Folder, on: datetime.date, position: int, measure: lis
     """Returns the sums of the last line of a valuation by the program, and how many rows have a word."""
     ended = folder.life("value", str(on), "--at", str(position), *measure)
     assert ended.status == 0, ended
-    return [int(text.replace(".", "")) for text in ended.out.splitlines()[-1].split(",")[1:]]
+    return [cents(text) for text in ended.out.splitlines()[-1].split(",")[1:]]
 
 
 def judge_reserves(folder: Folder, sheets: dict[str, Any], asked: Asked) -> None:
@@ -123,7 +124,7 @@ def listed_due(folder: Folder, commands: list[Command], on: datetime.date) -> An
     rows = [line.split(",") for line in folder.printed("due", str(on), "prefix.life").splitlines()[1:]]
     # a premium that is due on the day itself is listed as `premium`, and its days of grace are yet to come
     in_grace = [row for row in rows if row[0] in ("grace", "premium")]
-    return (len(in_grace), sum(int(row[4].replace(".", "")) for row in in_grace), sum(row[0] == "lapse" for row in rows))
+    return len(in_grace), sum(cents(row[4]) for row in in_grace), sum(row[0] == "lapse" for row in rows)
 
 
 def judge_premiums(folder: Folder, sheets: dict[str, Any], asked: Asked, commands: list[Command], past: dict[int, Any],

@@ -6,6 +6,7 @@ import subprocess
 import pytest
 
 from tests.support.folders import Folder
+from tests.support.shown import cents, demand_offline, plain
 
 
 @pytest.fixture
@@ -14,31 +15,24 @@ def page(small_office: Folder) -> str:
     return small_office.read("page.html")
 
 
-def text(page: str) -> str:
-    return " ".join(html.unescape(re.sub("<[^>]*>", " ", re.sub("<style>.*?</style>", " ", page, flags=re.S))).split())
-
-
-def test_it_needs_nothing_of_a_network(page: str) -> None:
-    assert not re.search(r"https?:|src=|@import|<script|<link", page)
-
-
 def test_its_totals_and_charts_are_the_programs(page: str, small_office: Folder) -> None:
+    demand_offline(page)
     total = small_office.printed("at", "11", "value", "2022-12-31").splitlines()[-1].split(",")
     # by hand: the insured amounts are 50000.00 + 9000.00 + 15000.00 + 100000.00
-    lower, upper = (f"{int(each.replace('.', '')) / 100:,.2f}" for each in total[1:3])
-    assert f"total 4 4 174,000.00 {lower} {upper} 0" in text(page)
+    lower, upper = (f"{cents(each) / 100:,.2f}" for each in total[1:3])
+    assert f"total 4 4 174,000.00 {lower} {upper} 0" in plain(page)
     charts = re.findall(r'<svg class="chart".*?</svg>', page, re.S)
     assert len(charts) == 3
     for chart in charts:
         marks = re.findall("<title>[^<]*, reserve, upper bound: ([0-9,.]+)</title>", chart)
-        assert sum(int(each.replace(",", "").replace(".", "")) for each in marks) == int(total[2].replace(".", ""))
+        assert sum(cents(each.replace(",", "")) for each in marks) == cents(total[2])
 
 
 def test_the_sampled_rows_are_worked_out(page: str) -> None:
     """The upper bounds are 1418.86 and 2656.23, and a third of their sum is less than each, so both rows are certain to be
     drawn."""
     assert "printed: 2656.22,2656.23: the same" in page and "printed: 1418.85,1418.86: the same" in page
-    assert "drawn 4,075.09 4,075.07 4,075.09" in text(page)
+    assert "drawn 4,075.09 4,075.07 4,075.09" in plain(page)
 
 
 def test_each_check_gives_what_it_has_to(page: str, small_office: Folder) -> None:
@@ -68,4 +62,4 @@ def test_of_what_no_bundle_is_made(small_office: Folder) -> None:
 
 def test_a_book_without_reserves_has_no_sample(small_office: Folder) -> None:
     small_office.printed("report", "2019-12-31", "--at", "11", "--bundle", "page.html")
-    assert "Every row has a reserve of 0, so none was drawn." in text(small_office.read("page.html"))
+    assert "Every row has a reserve of 0, so none was drawn." in plain(small_office.read("page.html"))

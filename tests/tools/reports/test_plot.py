@@ -84,9 +84,7 @@ def test_a_projection(office: Folder) -> None:
     ("reserves mean deficiency", "of several measures"),
     ("reserves --policy 99 valuations", "policy 99 has bounds in none"),
     ("reserves without-14", "add up to another total"),
-    ("book transcript", "isn't what life state prints"),
     ("projection crossed", "a lower bound is above"),
-    ("projection valuations", "isn't what life project prints"),
 ])
 def test_refused(office: Folder, words: str, says: str) -> None:
     office.write("without-14", re.sub("^row,14,.*\n", "", office.read("valuations"), flags=re.M))

@@ -11,6 +11,7 @@ import pytest
 
 from tests.support.folders import Folder
 from tests.support.made_books import lay_drawn_book
+from tests.support.shown import WORKBOOKS, cents, demand_offline, has, read_workbook
 
 AT = ["report", "2022-12-31", "--at", "11"]
 BY_PLAN = """\
@@ -44,11 +45,6 @@ premiums received 4905.50, settlements paid 69000.00
 MOVEMENT = ["movement", "2022-12-31", "11", "2024-06-30", "27"]
 
 
-def has(text: str, lines: str) -> None:
-    found = {" ".join(line.split()) for line in text.splitlines()}
-    assert set(lines.splitlines()) <= found, text
-
-
 def test_by_plan_and_year_of_issue(small_office: Folder) -> None:
     has(small_office.printed(*AT, "--by", "plan", "--by", "issue-year,status"), PRINTED)
 
@@ -68,7 +64,7 @@ def test_as_a_page(small_office: Folder) -> None:
                   f"<dt>journal</dt><dd>SHA-256 {prefix} up to position 11</dd>"):
         assert words in page, words
     assert re.search("<dt>made</dt><dd>20[0-9-]{8} [0-9]{2}:[0-9]{2} UTC</dd>", page)
-    assert not re.search("https?:|src=|@import", page), "the page asks for something of the network"
+    demand_offline(page)
     # the bars have one scale, by hand: 2656.23 of 4075.09 are 65.1 of a hundred
     assert page.count("width:100.0%") == 2 and "width:65.1%" in page
 
@@ -86,32 +82,18 @@ def test_a_movement_as_a_page(small_office: Folder) -> None:
     assert "3,902.44" in page
 
 
-# --- workbooks as a person reads them: LibreOffice shows ### if a column is too narrow ---
-
-WORKBOOKS = pytest.mark.needs("soffice", "pdftotext", "python:openpyxl")
-
-
-def as_text(folder: Folder, name: str) -> set[str]:
-    """Returns the lines of a workbook as LibreOffice prints it, whatever blanks are in them."""
-    folder.command("env", f"HOME={folder.path}", "timeout", "200", "soffice", "--headless", "--convert-to", "pdf", f"{name}.xlsx")
-    text = folder.command("pdftotext", "-layout", f"{name}.pdf", "-")
-    assert "##" not in text, "an amount isn't shown"
-    return {" ".join(line.split()) for line in text.splitlines()}
+# --- workbooks ---
 
 
 @WORKBOOKS
-def test_a_workbook_is_read(small_office: Folder) -> None:
-    small_office.printed(*AT, "--title", "=1+1", "--xlsx", "book.xlsx")
-    wanted = {"=1+1: Valuation on 2022-12-31 at position 11", "total 4 4 174,000.00 4,075.07 4,075.09 0",
-              "limited 1 1 15,000.00 1,418.85 1,418.86 0"}
-    assert wanted <= as_text(small_office, "book")
-
-
-@WORKBOOKS
-def test_a_workbook_of_a_movement_is_read(small_office: Folder) -> None:
-    small_office.printed(*MOVEMENT, "--xlsx", "moved.xlsx")
-    wanted = {"closing reserve 6 3,902.43 3,902.44", "maturities 2 -2,656.22 -2,656.23"}
-    assert wanted <= as_text(small_office, "moved")
+@pytest.mark.parametrize(("words", "lines"), [
+    ([*AT, "--title", "=1+1"], "=1+1: Valuation on 2022-12-31 at position 11\ntotal 4 4 174,000.00 4,075.07 4,075.09 0\n"
+     "limited 1 1 15,000.00 1,418.85 1,418.86 0"),
+    (MOVEMENT, "closing reserve 6 3,902.43 3,902.44\nmaturities 2 -2,656.22 -2,656.23"),
+], ids=["report", "movement"])
+def test_a_workbook_is_read(small_office: Folder, words: list[str], lines: str) -> None:
+    small_office.printed(*words, "--xlsx", "made.xlsx")
+    has(read_workbook(small_office, "made"), lines)
 
 
 @WORKBOOKS
@@ -122,8 +104,7 @@ def test_a_workbook_of_the_greatest_amounts_is_read(examples_basis: Folder) -> N
     folder.write("basis.csv", "1900-01-01,g.xml,0\n")
     folder.printed("report", "2050-01-15", "--by", "plan", "--xlsx", "great.xlsx")
     _, lower, upper, words = folder.life("value", "2050-01-15").out.splitlines()[-1].split(",")
-    wanted = f"total 9 9 900,000,000.00 {float(lower):,.2f} {float(upper):,.2f} {words}"
-    assert wanted in as_text(folder, "great")
+    has(read_workbook(folder, "great"), f"total 9 9 900,000,000.00 {float(lower):,.2f} {float(upper):,.2f} {words}")
 
 
 @pytest.mark.needs("python:openpyxl")
@@ -177,10 +158,6 @@ def test_a_row_by_another_measure_day_or_basis(by_hand: Folder, words: list[str]
 # --- drawn books ---
 
 AMOUNTS = ("lower bound", "upper bound", "minimum, lower", "minimum, upper")
-
-
-def cents(amount: str) -> int:
-    return int(amount.replace(".", ""))
 
 
 def test_groups_add_up_to_the_printed_total_by_sqlite(folder: Folder) -> None:

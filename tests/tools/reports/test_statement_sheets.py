@@ -32,8 +32,8 @@ def words_of_pdf(page: Path) -> list[str]:
     return printed.split()
 
 
-@pytest.mark.needs("chromium", "pdftotext")
-def test_the_printed_exhibit_has_all_its_columns(office: Folder) -> None:
+@pytest.mark.needs("chromium", "pdftotext", "pdfinfo")
+def test_the_printed_exhibit_has_all_its_columns_in_landscape(office: Folder) -> None:
     """By hand: 3 * (99999999.99 + 87654321.09 + 98765432.10 + 76543210.98) = 1088888892.48, for 12 policies and 12 postings."""
     office.printed("statement", *MOMENTS, "--mean", "--html", "page.html")
     words = words_of_pdf(office.path / "page.html")
@@ -41,11 +41,6 @@ def test_the_printed_exhibit_has_all_its_columns(office: Folder) -> None:
         assert wanted in words, f"{wanted} isn't on paper"
     assert words.count("1,088,888,892.48") >= 2, "the totals of the lines issued and in force at the end"
 
-
-@pytest.mark.needs("chromium", "pdfinfo")
-def test_the_statement_is_printed_in_landscape(office: Folder) -> None:
-    office.printed("statement", *MOMENTS, "--mean", "--html", "page.html")
-    words_of_pdf(office.path / "page.html")
     size = re.search("Page size: +([0-9.]+) x ([0-9.]+) pts", office.command("pdfinfo", "page.pdf"))
     assert size and float(size[1]) > float(size[2]), size
 
@@ -89,7 +84,7 @@ def test_what_the_minimum_is_compared_with(office: Folder) -> None:
     assert "The minimum reserve is a terminal one" not in office.printed("statement", *MOMENTS)
 
 
-def test_report_tells_policies_issued_after_the_day(office: Folder) -> None:
+def test_report_names_policies_issued_after_the_day(office: Folder) -> None:
     told = office.tools("report", "2020-12-31")
     assert told.status == 0 and "policies issued after 2020-12-31, which are counted" in told.err, told
     assert told.err.rstrip().endswith(": 1")
