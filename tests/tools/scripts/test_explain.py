@@ -10,23 +10,23 @@ HEAD = "<XTbML><Table><Values><Axis>"
 RATES = HEAD + '\n  <Y t="0">0.1</Y>\n  <Y t="1">{}</Y>'
 SELECT = ('<XTbML>\n<Table><Values><Axis><Axis t="1">\n  <Y t="{}">0.1</Y></Axis></Axis></Values></Table>{}</XTbML>')
 GAP = '<Table><Values><Axis><Y t="3">0.1</Y></Axis></Values></Table>'
-# by name: the text of t.xml, which the program refuses, and what `explain` says about it
-TABLES: dict[str, tuple[str | None, list[str]]] = {
-    "no file": (None, ["no such file"]),
-    "a table that breaks off": (RATES.format("0.0004213387291"), ["^parser: "]),
-    "a rate of too many places": (RATES.format("0.0004213387291") + "</Axis></Values></Table></XTbML>",
+T = "1900-01-01,t.xml,400\n"
+# by name: basis.csv, and t.xml if there is one, of which the program refuses one; and what `explain` says about it
+BASES: dict[str, tuple[str, str | None, list[str]]] = {
+    "no file": (T, None, ["no such file"]),
+    "a table that breaks off": (T, RATES.format("0.0004213387291"), ["^parser: "]),
+    "a rate of too many places": (T, RATES.format("0.0004213387291") + "</Axis></Values></Table></XTbML>",
                                   ["^line 3 of t.xml, byte 3 "]),
-    "a duration 2 first": (SELECT.format(2, ""), ["^wanted: rates of each issue age by duration", "^line 3 of t.xml, byte 3 "]),
-    "no ultimate table": (SELECT.format(1, ""), ["^wanted: a second Table after this one", "^line 2 of t.xml, byte 1 "]),
+    "a duration 2 first": (T, SELECT.format(2, ""),
+                           ["^wanted: rates of each issue age by duration", "^line 3 of t.xml, byte 3 "]),
+    "no ultimate table": (T, SELECT.format(1, ""), ["^wanted: a second Table after this one", "^line 2 of t.xml, byte 1 "]),
     "a gap before the ultimate rates": (
-        SELECT.format(1, GAP),
+        T, SELECT.format(1, GAP),
         ["^wanted: an ultimate rate for the age right after", "^line 2 of t.xml, byte 22 ",
          "^cure:   let the ultimate rates begin"]),
-    "another document": ("<html><body>not found</body></html>", ["^wanted: the path XTbML"]),
-}
-BASES = {
-    "two rows of one day": ("1900-01-01,q.xml,0\n\n1900-01-01,q.xml,0\n", "^line 3 of basis.csv, row 2$"),
-    "an interest with a sign": ("1900-01-01,q.xml,4%\n", "^wanted: a row: "),
+    "another document": (T, "<html><body>not found</body></html>", ["^wanted: the path XTbML"]),
+    "two rows of one day": ("1900-01-01,q.xml,0\n\n1900-01-01,q.xml,0\n", None, ["^line 3 of basis.csv, row 2$"]),
+    "an interest with a sign": ("1900-01-01,q.xml,4%\n", None, ["^wanted: a row: "]),
 }
 REFUSED = {
     "another fault of the table": (["badbasis,t.xml,8,noultimate"], "the first fault of t.xml is badbasis,t.xml,29,ultimategap"),
@@ -37,34 +37,21 @@ REFUSED = {
 }
 
 
-def explained(folder: Folder) -> str:
-    answer = folder.life("value", "2021-01-01")
+@pytest.mark.parametrize(("basis", "table", "says"), BASES.values(), ids=BASES)
+def test_a_basis_or_a_table_that_is_refused(examples_basis: Folder, basis: str, table: str | None, says: list[str]) -> None:
+    examples_basis.write("basis.csv", basis)
+    if table is not None:
+        examples_basis.write("t.xml", table)
+    answer = examples_basis.life("value", "2021-01-01")
     assert answer.status == 4, answer
-    return folder.printed("explain", answer.out.strip())
+    explained = examples_basis.printed("explain", answer.out.strip())
+    assert all(re.search(line, explained, re.M) for line in says), explained
 
 
-@pytest.mark.parametrize("name", TABLES)
-def test_a_table_that_is_refused(examples_basis: Folder, name: str) -> None:
-    text, says = TABLES[name]
-    examples_basis.write("basis.csv", "1900-01-01,t.xml,400\n")
-    if text is not None:
-        examples_basis.write("t.xml", text)
-    told = explained(examples_basis)
-    assert all(re.search(line, told, re.M) for line in says), told
-
-
-@pytest.mark.parametrize("name", BASES)
-def test_a_basis_that_is_refused(examples_basis: Folder, name: str) -> None:
-    text, says = BASES[name]
-    examples_basis.write("basis.csv", text)
-    assert re.search(says, explained(examples_basis), re.M)
-
-
-@pytest.mark.parametrize("name", REFUSED)
-def test_what_is_no_answer_of_the_program(examples_basis: Folder, name: str) -> None:
-    words, says = REFUSED[name]
+@pytest.mark.parametrize(("words", "says"), REFUSED.values(), ids=REFUSED)
+def test_what_is_no_answer_of_the_program(examples_basis: Folder, words: list[str], says: str) -> None:
     examples_basis.write("t.xml", SELECT.format(1, GAP))
-    examples_basis.write("basis.csv", "1900-01-01,t.xml,400\n")
+    examples_basis.write("basis.csv", T)
     examples_basis.refused("explain", *words, says=says)
 
 

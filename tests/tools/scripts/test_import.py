@@ -218,19 +218,6 @@ def test_by_the_last_birthday(with_statuses: Folder) -> None:
     assert "1,issue,2,2020-01-02,endowment,39,10,1000.00,100.00" in script.splitlines()
 
 
-@pytest.mark.parametrize(("old", "new", "words", "says"), [
-    ("", "", [], "--classes and a class in map.csv go together"),
-    ("state,A,inforce\nstate,L,lapsed\nstate,P,paidup\nstate,C,left\n", "", CLASSES, "status and its words, state, together"),
-    ("reduced,now,1234.56\n", "", CLASSES, "has no reduced amount"),
-    ("paid-to,to,YYYY-MM-DD\n", "paid-to,to,YYYY-MM-DD\npaid,term\n", CLASSES, "names both of paid and paid-to"),
-    ("birth,born,YYYY-MM-DD\n", "age,term\n", [*CLASSES, "--age", "nearest"], "which says nothing of birthdays"),
-])
-def test_maps_with_statuses_that_are_refused(with_statuses: Folder, old: str, new: str, words: list[str], says: str) -> None:
-    assert old in STATUS_MAP
-    with_statuses.write("map.csv", STATUS_MAP.replace(old, new) if old else STATUS_MAP)
-    with_statuses.refused("import", "book.csv", "--map", "map.csv", *TO, *words, says=says)
-
-
 # --- wrong input ---
 
 
@@ -247,20 +234,29 @@ def test_refused(mapped: Folder, words: list[str], says: str) -> None:
     mapped.refused("import", *words, *TO, says=says)
 
 
-@pytest.mark.parametrize(("old", "new", "says"), [
-    ("paid,paid\n", "", "names neither of paid and paid-to"),
-    ('amount,sum,"1,234.56"\n', "", "says nothing of amount"),
-    ("age,age\n", "", "names neither of age and birth"),
-    ("age,age\n", "age,age\nbirth,remark,DD.MM.YYYY\n", "names both of age and birth"),
-    ("age,age", "ages,age", "wrong-map.csv, line 7: ages is none of"),
-    ("MM/DD", "MM/MM", "line 3: a way of writing days"),
-    (",whole", ",annuity", "annuity is no plan"),
-    (",cents", ",12,34", "an amount is written as one of"),
+@pytest.mark.parametrize(("right", "old", "new", "words", "says"), [
+    (MAP, "paid,paid\n", "", "", "names neither of paid and paid-to"),
+    (MAP, 'amount,sum,"1,234.56"\n', "", "", "says nothing of amount"),
+    (MAP, "age,age\n", "", "", "names neither of age and birth"),
+    (MAP, "age,age\n", "age,age\nbirth,remark,DD.MM.YYYY\n", "", "names both of age and birth"),
+    (MAP, "age,age", "ages,age", "", "map.csv, line 7: ages is none of"),
+    (MAP, "MM/DD", "MM/MM", "", "line 3: a way of writing days"),
+    (MAP, ",whole", ",annuity", "", "annuity is no plan"),
+    (MAP, ",cents", ",12,34", "", "an amount is written as one of"),
+    (STATUS_MAP, "number", "number", "", "--classes and a class in map.csv go together"),
+    (STATUS_MAP, "state,A,inforce\nstate,L,lapsed\nstate,P,paidup\nstate,C,left\n", "", "--classes classes.csv",
+     "status and its words, state, together"),
+    (STATUS_MAP, "reduced,now,1234.56\n", "", "--classes classes.csv", "has no reduced amount"),
+    (STATUS_MAP, "paid-to,to,YYYY-MM-DD\n", "paid-to,to,YYYY-MM-DD\npaid,term\n", "--classes classes.csv",
+     "names both of paid and paid-to"),
+    (STATUS_MAP, "birth,born,YYYY-MM-DD\n", "age,term\n", "--classes classes.csv --age nearest",
+     "which says nothing of birthdays"),
 ])
-def test_maps_that_are_refused(mapped: Folder, old: str, new: str, says: str) -> None:
-    assert old in MAP
-    mapped.write("wrong-map.csv", MAP.replace(old, new))
-    mapped.refused("import", "book.csv", "--map", "wrong-map.csv", *TO, says=says)
+def test_maps_that_are_refused(folder: Folder, right: str, old: str, new: str, words: str, says: str) -> None:
+    assert old in right
+    folder.write("map.csv", right.replace(old, new))
+    folder.write("book.csv", BOOK if right == MAP else STATUS_BOOK)
+    folder.refused("import", "book.csv", "--map", "map.csv", *TO, *words.split(), says=says)
 
 
 def test_a_book_that_isnt_utf_8(mapped: Folder) -> None:

@@ -81,7 +81,7 @@ def test_forms(folder: Folder, name: str) -> None:
 
 @pytest.mark.parametrize(("name", "explained"), [("UTF-16", "it is written in UTF-16"),
                                                  ("references", "badbasis,t.xml,[0-9]*,badrate")])
-def test_what_the_program_refuses_isnt_told_to_be_taken(folder: Folder, name: str, explained: str) -> None:
+def test_what_the_program_refuses_is_reported_as_not_taken(folder: Folder, name: str, explained: str) -> None:
     folder.write("t.xml", written(name))
     ended = folder.tools("table", "check", "t.xml")
     assert ended.status == 1 and ended.out.startswith("t.xml isn't taken: badbasis,t.xml,"), ended
@@ -89,29 +89,26 @@ def test_what_the_program_refuses_isnt_told_to_be_taken(folder: Folder, name: st
     assert explaining.status == 1 and re.search(explained, explaining.out + explaining.err), explaining
 
 
-@pytest.mark.parametrize(("name", "says", "changes"), [
-    ("cso-1980-aggregate", "male; age nearest birthday; year 1980", ["^nothing had to be"]),
-    ("cso-2001-select-ultimate", "female, nonsmoker; age last birthday; year 2001", ["^nothing had to be"]),
-    ("cso-2017-aggregate", "male, composite; age nearest birthday; year 2017", ["^nothing had to be"]),
-    ("cso-2017-select-ultimate", "male, smoker, preferred; age nearest birthday; year 2017",
-     ["^empty cells at the end are dropped: 28"]),
-])
-def test_shipped_layouts_that_are_taken(folder: Folder, name: str, says: str, changes: list[str]) -> None:
-    folder.write("t.xml", (SHIPPED / f"{name}.xml").read_bytes())
-    told = folder.printed("table", "check", "t.xml")
-    assert f"the file says: {says}\n" in told and " is taken: " in told
-    converted(folder, changes, SHIPPED / f"{name}.xml")
+# what `check` prints of a shipped table, and what `convert` reports that it changed
+LAYOUTS = {
+    "cso-1980-aggregate": ("the file says: male; age nearest birthday; year 1980\n", "^nothing had to be"),
+    "cso-2001-select-ultimate": ("the file says: female, nonsmoker; age last birthday; year 2001\n", "^nothing had to be"),
+    "cso-2017-aggregate": ("the file says: male, composite; age nearest birthday; year 2017\n", "^nothing had to be"),
+    "cso-2017-select-ultimate": ("the file says: male, smoker, preferred; age nearest birthday; year 2017\n",
+                                 "^empty cells at the end are dropped: 28"),
+    "cso-2001-ultimate": (",badrate\n", "^rates rounded to nine places: 98, the largest change 3.33e-10, of age 114"),
+    "cso-2017-ultimate": (",scaled\n", "^ScalingFactor 1000: each rate is divided by it"),
+}
 
 
-@pytest.mark.parametrize(("name", "word", "change", "scale"), [
-    ("cso-2001-ultimate", "badrate", "^rates rounded to nine places: 98, the largest change 3.33e-10, of age 114", "1"),
-    ("cso-2017-ultimate", "scaled", "^ScalingFactor 1000: each rate is divided by it", "0.001"),
-])
-def test_shipped_layouts_that_are_made_ones(folder: Folder, name: str, word: str, change: str, scale: str) -> None:
+@pytest.mark.parametrize("name", LAYOUTS)
+def test_shipped_layouts(folder: Folder, name: str) -> None:
+    says, change = LAYOUTS[name]
     folder.write("t.xml", (SHIPPED / f"{name}.xml").read_bytes())
-    told = folder.printed("table", "check", "t.xml", status=1)
-    assert f",{word}\n" in told and "table convert makes it one: " in told
-    converted(folder, [change], SHIPPED / f"{name}.xml", Decimal(scale))
+    is_taken = says.startswith("the file says")
+    printed = folder.printed("table", "check", "t.xml", status=0 if is_taken else 1)
+    assert says in printed and (" is taken: " if is_taken else "table convert makes it one: ") in printed
+    converted(folder, [change], SHIPPED / f"{name}.xml", Decimal("0.001" if says == ",scaled\n" else 1))
 
 
 def test_a_rounded_file_is_the_same_but_for_its_rates(folder: Folder) -> None:
@@ -194,7 +191,7 @@ def test_no_rate_is_invented(folder: Folder, name: str) -> None:
     assert "table convert can't make it one: " in ended.out
 
 
-def test_a_factor_that_is_told(folder: Folder) -> None:
+def test_a_factor_that_is_given(folder: Folder) -> None:
     folder.write("t.xml", PLAIN.replace("<ScalingFactor>0<", "<ScalingFactor>10<"))
     converted(folder, ["^ScalingFactor 10: each rate is divided"], SHIPPED / "cso-1980-aggregate.xml", Decimal("0.1"),
               ("--factor", "divide"))
