@@ -40,13 +40,7 @@ def book(examples_basis: Folder) -> Folder:
     return book
 
 
-def set_byte(book: Folder, place: int, value: int) -> None:
-    data = bytearray(book.journal.read_bytes())
-    data[place] = value
-    book.journal.write_bytes(data)
-
-
-def is_told_damaged(book: Folder, says: str, *words: str) -> None:
+def demand_damaged(book: Folder, says: str, *words: str) -> None:
     """Asserts that `verify` reports that commands are gone, and that a list of books values nothing of the book."""
     assert ends(book, 1, says, "verify", *words).out.endswith("damaged\n")
     rows = ends(book, 1, says, "books", "books.csv", "state").out.splitlines()
@@ -62,16 +56,16 @@ def test_a_whole_book(book: Folder) -> None:
 
 @pytest.mark.parametrize("record", [0, 25, 38])
 def test_a_closed_commit_byte_before_the_last(book: Folder, record: int) -> None:
-    set_byte(book, commit_byte(record), 0)
+    book.damage(record)
     # the program itself takes the journal to end there, as its format says
     assert book.life("state").out.endswith(f"count,{record}\n")
-    behind = LENGTH - 18 - 65 * record
-    is_told_damaged(book, f"{behind} bytes follow byte {commit_byte(record)}, the commit byte of record {record}, which isn't 1")
+    after = LENGTH - 18 - 65 * record
+    demand_damaged(book, f"{after} bytes follow byte {commit_byte(record)}, the commit byte of record {record}, which isn't 1")
 
 
 def test_each_value_but_1_closes(book: Folder) -> None:
-    set_byte(book, commit_byte(25), 0o201)
-    is_told_damaged(book, "which isn't 1")
+    book.damage(25, 0o201)
+    demand_damaged(book, "which isn't 1")
 
 
 # --- the last commit byte, which may also be 0 after a crash ---
@@ -80,7 +74,7 @@ def test_each_value_but_1_closes(book: Folder) -> None:
 @pytest.fixture
 def ended(book: Folder) -> Folder:
     """The book after its last commit byte was set to 0, which a crash may leave, too."""
-    set_byte(book, commit_byte(39), 0)
+    book.damage(39)
     return book
 
 
@@ -96,16 +90,16 @@ def test_of_the_last_nobody_has_noted_anything(ended: Folder) -> None:
     assert headroom.splitlines()[1].startswith("main,39,")
 
 
-def test_one_byte_more_behind_the_last_shows(ended: Folder) -> None:
+def test_one_byte_more_after_the_last_shows(ended: Folder) -> None:
     ended.journal.write_bytes(ended.journal.read_bytes() + b"x")
-    is_told_damaged(ended, "66 bytes follow byte")
+    demand_damaged(ended, "66 bytes follow byte")
 
 
 def test_a_checkpoint_of_more_commands(book: Folder) -> None:
     assert book.life("checkpoint").status == 0
     assert ends(book, 0, "", "verify").out == WHOLE.replace("whole", "noted,checkpoint.life,40\nwhole")
-    set_byte(book, commit_byte(39), 0)
-    is_told_damaged(book, "journal.life has 39 commands, and had 40 by .*checkpoint.life")
+    book.damage(39)
+    demand_damaged(book, "journal.life has 39 commands, and had 40 by .*checkpoint.life")
     assert not ends(book, 1, "had 40 by checkpoint.life", "read", "journal.life").out
 
 
@@ -117,7 +111,7 @@ def test_what_is_no_checkpoint_notes_nothing(ended: Folder, checkpoint: bytes) -
 
 def test_of_another_file_only_what_is_named_is_asked(book: Folder) -> None:
     book.life("checkpoint")
-    set_byte(book, commit_byte(39), 0)
+    book.damage(39)
     book.write("copy.life", book.journal.read_bytes())
     ends(book, 1, "is undecided", "verify", "copy.life")
     ends(book, 1, "had 40 by checkpoint.life", "verify", "copy.life", "--checkpoint", "checkpoint.life")
@@ -131,7 +125,7 @@ def test_a_log_of_more_commands_and_its_newest_run(ended: Folder) -> None:
     (ended.path / "log" / "runs" / ".new").mkdir(parents=True)
     noted(ended, "000001", 0, 7)
     noted(ended, "000009", 0, 40)
-    is_told_damaged(ended, "journal.life has 39 commands, and had 40 by .*log")
+    demand_damaged(ended, "journal.life has 39 commands, and had 40 by .*log")
     # the run with the highest number is the newest
     noted(ended, "000010", 0, 39)
     ends(ended, 1, "is undecided", "verify")
@@ -141,7 +135,7 @@ def test_a_run_that_was_interrupted_notes_what_it_printed(ended: Folder) -> None
     noted(ended, "000010", 0, None)
     transcript = ended.read("transcript")
     ended.write("log/runs/000010/transcript", transcript)
-    is_told_damaged(ended, "had 40 by .*log")
+    demand_damaged(ended, "had 40 by .*log")
     ended.write("log/runs/000010/transcript", "".join(line for line in transcript.splitlines(keepends=True)
                                                       if not line.endswith(",accepted,40\n")))
     ends(ended, 1, "is undecided", "verify")
@@ -159,15 +153,17 @@ def test_a_log_that_is_none(ended: Folder) -> None:
 
 def test_a_seal_of_more_commands(book: Folder) -> None:
     book.write("sealed", book.printed("seal", "--no-basis"))
-    set_byte(book, commit_byte(39), 0)
-    told = ends(book, 1, "journal.life has 39 commands, and had 40 by sealed", "verify", "--seal", "sealed")
-    assert told.out.endswith("damaged\n")
+    book.damage(39)
+    says = "journal.life has 39 commands, and had 40 by sealed"
+    assert ends(book, 1, says, "verify", "--seal", "sealed").out.endswith("damaged\n")
 
 
 def test_an_amount_that_was_changed_is_known_by_a_seal_alone(book: Folder) -> None:
     book.write("sealed", book.printed("seal", "--no-basis"))
     # the last byte of the amount of record 3: its body begins after its commit byte, and the amount ends with byte 19 of the body
-    set_byte(book, commit_byte(3) + 1 + 19, 0o377)
+    data = bytearray(book.journal.read_bytes())
+    data[commit_byte(3) + 1 + 19] = 0o377
+    book.journal.write_bytes(data)
     ends(book, 0, "", "verify")
     says = r"the first 17 \+ 65 \* 40 bytes aren't those that were sealed, by sealed"
     assert ends(book, 1, says, "verify", "--seal", "sealed").out.endswith("damaged\n")

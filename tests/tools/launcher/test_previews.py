@@ -164,7 +164,7 @@ def test_a_checkpoint_that_is_in_use(folder: Folder, life: Called) -> None:
             assert status == 8 and said.startswith("diskfault") and user in said, said
 
 
-def test_the_growth_of_a_journal_is_told(folder: Folder, life: Called) -> None:
+def test_the_growth_of_a_journal_is_shown(folder: Folder, life: Called) -> None:
     """The terminal shows how the journal grows: until the text begins, which is soon; or, if the text goes to a file, until
     the run ends. If the run is stopped, the launcher says what was kept."""
     lines = 3000 if folder.program.path != PREVIEW else 1000

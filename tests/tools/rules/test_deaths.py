@@ -80,7 +80,7 @@ def last_answers(folder: Folder, lives: list[list[Command]]) -> list[str]:
     return [answers[end] for end in ends]
 
 
-def test_deaths_that_are_told_late(folder: Folder) -> None:
+def test_deaths_that_are_reported_late(folder: Folder) -> None:
     """The program is asked about each death on its day, after the postings up to that day, and about the claim that is
     advised."""
     draw = Random(5)
@@ -133,7 +133,7 @@ def test_a_claim_on_the_day_of_a_reinstatement(deaths: Folder) -> None:
     assert "reinstated on 2021-06-01: is it known that the insured lived then" in told
 
 
-def test_a_reduction_behind_the_death_leaves_a_part_outside(deaths: Folder) -> None:
+def test_a_reduction_after_the_death_leaves_a_part_outside(deaths: Folder) -> None:
     deaths.post("1,issue,7405,2020-03-15,whole,41,0,1000.00,10.00\n1,premium,7405,2020-03-15,10.00\n"
                 "1,premium,7405,2021-04-01,10.00\n1,alter,7405,2021-04-05,900.00,9.00\n")
     told, = to_do(deaths, "1,claim,7405,2021-03-20\n")

@@ -18,7 +18,7 @@ DAY = """\
 # By hand: policy 15 has 40000.00 outstanding; the settlement of 13 on this day is command 25; and the newest posting of 11 is
 # dated 2024-03-10, 679 days after 2022-05-01. The lanes 5 and 6 may come in either order, and the row of lane 6 is refused in
 # each.
-TOLD = """\
+REPORTED = """\
 line 2 of one-order.csv: 1,premium,12,2025-02-27,311.00
   the day is before that of the lane's posting above, which is 2025-02-28
   the policy's premium is 310.00
@@ -68,9 +68,9 @@ def office(small_office: Folder) -> Folder:
     return small_office
 
 
-def test_what_is_told_of_a_day(office: Folder) -> None:
+def test_what_is_reported_of_a_day(office: Folder) -> None:
     before = office.journal.read_bytes()
-    assert office.finds("check", "one-order.csv", "--today", "2025-03-01", says="^rows: 7, reported: 5;").out == TOLD
+    assert office.finds("check", "one-order.csv", "--today", "2025-03-01", says="^rows: 7, reported: 5;").out == REPORTED
     assert office.journal.read_bytes() == before
 
 
@@ -78,7 +78,7 @@ def test_a_row_that_is_refused_in_each_order(office: Folder) -> None:
     office.finds("check", "day.csv", "--today", "2025-03-01", says="^rows: 9, reported: 6;")
 
 
-def test_nothing_is_told_of_a_right_row(office: Folder) -> None:
+def test_nothing_is_reported_of_a_right_row(office: Folder) -> None:
     office.write("right.csv", "5,settle,15,2024-04-20,15000.00\n5,settle,15,2024-04-20,25000.00\n")
     assert office.printed("check", "right.csv") == ""
 
@@ -87,8 +87,8 @@ def test_a_claim_long_after_the_newest_posting(folder: Folder) -> None:
     """The policy has premiums still to pay, so it can't have been without a posting for so long."""
     folder.post("1,issue,7,2024-01-01,whole,30,0,60.00,1.00\n")
     folder.write("claim.csv", "1,claim,7,2025-06-01\n")
-    told = folder.finds("check", "claim.csv", "--today", "2025-06-01", says="^rows: 1, reported: 1;").out
-    assert "  the day is 517 days after the policy's newest posting, which is of 2024-01-01" in told.splitlines()
+    reported = folder.finds("check", "claim.csv", "--today", "2025-06-01", says="^rows: 1, reported: 1;").out
+    assert "  the day is 517 days after the policy's newest posting, which is of 2024-01-01" in reported.splitlines()
 
 
 def test_more_than_is_outstanding(office: Folder) -> None:
@@ -102,16 +102,16 @@ def aged(examples_basis: Folder) -> Folder:
     return examples_basis
 
 
-def test_days_years_behind_that_are_meant(aged: Folder) -> None:
+def test_days_many_years_later_that_are_meant(aged: Folder) -> None:
     sent = aged.printed("due", "2025-07-01", "--script", "mature")
     aged.write("sent.csv", sent + "1,claim,31,2025-07-02\n")
     assert sent and aged.printed("check", "sent.csv") == ""
 
 
-def test_a_maturity_years_behind_the_end(aged: Folder) -> None:
+def test_a_maturity_years_after_the_end(aged: Folder) -> None:
     aged.write("late.csv", "1,mature,32,2026-07-07\n")
-    told = aged.finds("check", "late.csv", "--today", "2026-07-07", says="^rows: 1, reported: 1;").out
-    assert "  the day is 401 days after the end of the policy's term, 2025-06-01" in told.splitlines()
+    reported = aged.finds("check", "late.csv", "--today", "2026-07-07", says="^rows: 1, reported: 1;").out
+    assert "  the day is 401 days after the end of the policy's term, 2025-06-01" in reported.splitlines()
 
 
 def test_a_dry_run_prints_what_the_run_prints_and_posts_nothing(office: Folder) -> None:

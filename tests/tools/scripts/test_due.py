@@ -92,7 +92,7 @@ def test_the_list(office: Folder, words: list[str], listed: str) -> None:
     assert office.printed("due", *words) == HEAD + listed
 
 
-def test_the_sums_are_told(office: Folder) -> None:
+def test_the_sums_are_printed(office: Folder) -> None:
     assert "mature: 2, 2000.00" in office.tools("due", "2022-01-16", "--within", "4").err.splitlines()
 
 
