@@ -68,13 +68,16 @@ def test_the_book_has_its_own_name(office: Folder, words: tuple[str, ...]) -> No
 
 
 def test_a_page_for_each_letter(office: Folder) -> None:
+    """Policy 5 is past its grace, so its letter doesn't say that it is in force."""
+    office.write("sample", office.printed("audit", "sample", "60", "--seed", "1", "--on", "2021-03-31", "--by", "amount"))
     rows = letters(office)
+    assert set(rows) >= {"2", "5", "6"}, rows
     office.printed("audit", "letters", "sample", "--html", "letters.html", "--title", "An Office")
     page = office.read("letters.html")
-    assert ("none: all premiums are paid" in page) == ("6" in rows)
+    assert "none: all premiums are paid" in page
     assert page.count("<section ") == len(rows) and "src=" not in page and "@import" not in page
-    if "2" in rows:
-        assert "20.00 since 2021-03-15" in page and "until 2021-04-15, unless the premium is paid by then" in page
-    if "5" in rows:
-        assert "no longer insured: the last day of grace was 2020-04-01" in page
+    assert "20.00 since 2021-03-15" in page and "until 2021-04-15, unless the premium is paid by then" in page
+    late = page[page.index('id="letter-5"'):].partition("</section>")[0]
+    assert "no longer insured: the last day of grace was 2020-04-01" in late
+    assert "<td>in arrears</td>" in late and "in force" not in late
     assert "break-before: page" in page

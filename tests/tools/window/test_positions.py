@@ -163,3 +163,23 @@ def test_a_year_end_statement_has_mean_reserves(window: Window, lived: Folder) -
 def test_policies_issued_after_the_day_are_told(window: Window) -> None:
     answer = window.page("/1/report?on=2010-06-30")
     assert re.search(r"[0-9,]+ policies of this position are issued after 2010-06-30", answer.text)
+
+
+def test_a_new_user_finds_the_year_ends_and_the_meaning_of_flags(window: Window, lived: Folder) -> None:
+    """The audit offers the last year-ends, of whatever position it is; what flags mean stands before the postings; an empty list
+    of flags is a file, too; amounts of the drawing are written as all others."""
+    for path in ("/1/audit", "/1/audit?at=700"):
+        page = window.page(path)
+        link = next(each for each in page.links() if "/audit?" in each and f"on={YEAR_END}" in each)
+        chosen = window.page(link)
+        assert named(chosen, "header") == position_of(lived, YEAR_END), path
+        assert f"the book at the end of {YEAR_END}" in chosen.text
+    flags = window.page("/1/flags?after=0&at=700").page
+    assert flags.index("which postings have it") < flags.index("Postings to look at</caption>")
+    last = position_of(lived, YEAR_END)
+    empty = window.page(f"/1/flags?at={last}&after={last}")
+    assert "0 postings after position" in empty.text
+    file = window.page(next(each for each in empty.links() if "/flags.csv?" in each)).body.decode()
+    assert file.splitlines() == lived.tools("audit", "flags", "--at", str(last), "--after", str(last)).out.splitlines()
+    total = lived.printed("at", str(last), "value", YEAR_END, "--mean").splitlines()[-1].split(",")[2]
+    assert f"of {int(total[:-3]):,}{total[-3:]} in all" in window.page(f"/1/sample?on={YEAR_END}&p={last}&count=5").text

@@ -93,10 +93,16 @@ def cover_in_words(told: Mapping[str, str]) -> str:
     return f"until {until}" if until > on else f"ended on {until}"
 
 
+def standing(told: Mapping[str, str]) -> str:
+    """Returns the status; a policy past its grace, of which no lapse is posted, is in arrears and not in force."""
+    is_past = told["premium in arrears"] and told["insured until"] < told["as of"]
+    return "in arrears" if is_past else STATUSES[told["status"]]
+
+
 def lines_of(told: Mapping[str, str]) -> list[tuple[str, str]]:
     """Returns what the holder is asked to confirm: pairs of a name and what the book has."""
     found = [("Insurance", PLANS[told["plan"]]), ("Issued", f"{told['issued']}, at age {told['age at issue']}"),
-             ("Standing", STATUSES[told["status"]]), ("Amount insured", apart(told["amount"]))]
+             ("Standing", standing(told)), ("Amount insured", apart(told["amount"]))]
     if told["premium a year"]:
         found.append(("Premium a year", apart(told["premium a year"])))
     found.append(("Premiums paid", told["premiums paid"] + (f", up to {told['paid up to']}" if told["paid up to"] else "")))

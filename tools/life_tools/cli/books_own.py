@@ -152,7 +152,7 @@ def report_sheets(options: argparse.Namespace, outcomes: Sequence[Outcome]) -> l
 
 def movement_sheets(options: argparse.Namespace, outcomes: Sequence[Outcome]) -> list[Sheet]:
     found: MovedBook = moved_added([outcome.made.what for outcome in outcomes])
-    notes = [f"{words} policies of the {name} have no value, and are in no sum"
+    notes = [f"{words} policies of the {name} are not valued, and are in no sum"
              for name, words in zip((OPENING, CLOSING), found.words) if words]
     title = f"from {options.words[1]} to {options.words[2]}"
     return [movement_sheet(title, found.lines, found.cash, [*notes, *TOLD])]

@@ -114,7 +114,7 @@ def write_files(options: argparse.Namespace, lines: list[Moved], cash: Cash, not
 
 
 def notes_of(books: Books) -> list[str]:
-    notes = [f"{valuation.words} policies of the {name} have no value, and are in no sum"
+    notes = [f"{valuation.words} policies of the {name} are not valued, and are in no sum"
              for name, valuation in ((LINES[0], books.opening), (LINES[-1], books.closing)) if valuation.words]
     return [*notes, *TOLD]
 

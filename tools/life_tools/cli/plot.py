@@ -54,7 +54,7 @@ def series_of(found: list[Valuation], policies: list[int]) -> list[DaySeries]:
     if not policies:
         for valuation in found:
             if valuation.words:
-                remark(f"{valuation.day}: {valuation.words} policies have no value, and are in no sum")
+                remark(f"{valuation.day}: {valuation.words} policies are not valued, and are in no sum")
         return [("total", [(valuation.day, valuation.total) for valuation in found])]
     return [policy_series(found, number) for number in policies]
 
@@ -89,7 +89,7 @@ def projection(options: argparse.Namespace) -> str:
     printed = printed_projection(printed_text(options.projection))
     demand(all(lower <= upper for year in printed.years for lower, upper in year), "a lower bound is above the upper one")
     if printed.words:
-        remark(f"{printed.words} policies have no value, and are in no sum")
+        remark(f"{printed.words} policies are not valued, and are in no sum")
     series = [(name, [(j, year[kind][1]) for j, year in enumerate(printed.years)]) for kind, name in enumerate(KINDS_OF_CASH)]
     title = f"expected payments by year, upper bounds, {printed.policies} policies, from {printed.day} on"
     return lines_over(title, series, lambda j: f"year {j}")

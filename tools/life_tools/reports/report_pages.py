@@ -40,6 +40,10 @@ th:first-child, td:first-child { text-align: left } tr.total td { font-weight: 6
 """
 
 
+# an amount in a sentence
+AMOUNT = re.compile(r"[0-9]+\.[0-9]{2}")
+
+
 def apart(number: str) -> str:
     """Returns an amount or a count with separators of thousands, and any other text unchanged."""
     parts = re.fullmatch(r"(-?)([0-9]+)(\.[0-9]{2})?", number)

@@ -8,8 +8,9 @@ from collections import Counter
 from typing import Sequence
 
 from life_tools.audit.flags import FLAGS
-from life_tools.common.formats import MOST_COMMANDS, Wrong, money
+from life_tools.common.formats import FIRST_DAY, MOST_COMMANDS, Wrong, money
 from life_tools.journal.day_columns import number_at
+from life_tools.reports.report_pages import AMOUNT, apart
 from life_tools.valuations.printed_books import row_of
 from life_tools.reports.wording import STATUS_WORDS
 from life_tools.window.asked import Asked, BadRequest
@@ -24,6 +25,8 @@ SIZE_WORDS = {"reserve": "the reserve's upper bound", "amount": "the amount insu
 MEASURES = {"terminal": "terminal reserves", "mean": "mean reserves"}
 SAMPLE_WORDS = ("at", "p", "count", "seed", "on", "by", "measure")
 MOST_SHOWN = 500
+# so many year-ends are offered for an audit
+YEAR_ENDS = 4
 MOST_ROWS = 10_000
 
 
@@ -47,7 +50,7 @@ def verified(book: View) -> ToolRun:
 def audit(book: View, asked: Asked) -> Answer:
     """Returns the page on which a day is chosen; everything on it is of the position of that day."""
     asked.only(("at", "p", "on", "before"))
-    on, late = asked.day_or_none("on"), None
+    on, late, ends = asked.day_or_none("on"), None, year_ends(book.at_position(book.copy.newest))
     if on is not None and not asked.text("p"):
         # the day's own position, the same that the page *Month and year* shows
         late = book.history().on_day(number_at(on))
@@ -60,8 +63,18 @@ def audit(book: View, asked: Asked) -> Answer:
               "before": before, "after": book.history().position_on(number_at(before)) if before else 0,
               "late": late, "last_link": book.newest_link("audit", on=on, p=late.last, before=before) if late else "",
               "sizes": [(each, SIZE_WORDS[each]) for each in SIZES], "measures": list(MEASURES.items()),
-              "measure": measure_on(str(day)), "view": book}
+              "measure": measure_on(str(day)), "view": book, "year_ends": ends}
     return Page("audit.html", "Audit", values, of=book)
+
+
+def year_ends(newest: View) -> list[tuple[str, str]]:
+    """Returns the last ends of years that the postings reach, the latest first, each with the audit of that day."""
+    last = newest.last_day
+    if last is None:
+        return []
+    year = last.year if (last.month, last.day) == (12, 31) else last.year - 1
+    days = [datetime.date(each, 12, 31) for each in range(year, max(year - YEAR_ENDS, FIRST_DAY.year - 1), -1)]
+    return [(str(day), newest.link("audit", on=day)) for day in days]
 
 
 def back_link(book: View, on: object) -> str:
@@ -160,7 +173,8 @@ def sample(book: View, asked: Asked) -> Answer:
     files = [(says, book.link(name, **words)) for says, name in (
         ("The sample as a file", "sample.txt"), ("Papers to print", "papers.html"), ("Letters to print", "letters.html"),
         ("Letters as CSV", "letters.csv"))]
-    values = {"table": table, "count": len(rows), "shown": min(len(rows), MOST_SHOWN), "remarks": run.remarks, "words": words,
+    values = {"table": table, "count": len(rows), "shown": min(len(rows), MOST_SHOWN), "words": words,
+              "remarks": AMOUNT.sub(lambda it: apart(it[0]), run.remarks).splitlines(),
               "files": files, "says": SIZE_WORDS[str(words["by"])], "of": MEASURES[str(words["measure"])],
               "back": back_link(book, words["on"]), "file": named(words, "sample", "txt")}
     return Page("sample.html", f"Sample of {words['on']}", values)

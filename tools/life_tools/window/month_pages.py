@@ -9,7 +9,7 @@ from life_tools.journal.day_columns import number_at
 from life_tools.common.arrays import np
 from life_tools.common.formats import MEASURES
 from life_tools.reports.provenance import provenance
-from life_tools.reports.report_pages import apart, money
+from life_tools.reports.report_pages import AMOUNT, apart, money
 from life_tools.common.revisions import revision
 from life_tools.reports.sheets import BY_BOUNDS, HEADS
 from life_tools.reports import charts
@@ -164,7 +164,6 @@ def asked_movement(book: View, asked: Asked, *more: str) -> tuple[ToolRun, list[
     return tool_run(book, told, f"{title}, {RESERVES[measure]}", False), [*words, measure]
 
 
-AMOUNT = re.compile(r"[0-9]+\.[0-9]{2}")
 MOVED = re.compile(r"(.*?) {2,}([0-9]+) {2,}(-?[0-9.]+) {2,}(-?[0-9.]+)")
 
 
