@@ -82,6 +82,9 @@ def test_what_the_minimum_is_compared_with(office: Folder) -> None:
     assert "The minimum reserve is a terminal one" in printed
     assert re.search("Warning: of 12 policies the minimum reserve is above the terminal reserve", printed)
     assert "The minimum reserve is a terminal one" not in office.printed("statement", *MOMENTS)
+    amount = re.search("above the terminal reserve, by ([0-9]+)([.][0-9]{2}) in all", printed)
+    office.printed("statement", *MOMENTS, "--mean", "--html", "page.html")
+    assert amount and f"reserve, by {int(amount[1]):,}{amount[2]} in all" in office.read("page.html")
 
 
 def test_report_names_policies_issued_after_the_day(office: Folder) -> None:

@@ -50,6 +50,11 @@ def apart(number: str) -> str:
     return f"{parts[1]}{int(parts[2]):,}{parts[3] or ''}" if parts else number
 
 
+def all_apart(sentence: str) -> str:
+    """Returns a sentence in which each amount has separators of thousands."""
+    return AMOUNT.sub(lambda it: apart(it[0]), sentence)
+
+
 def money(cents: int) -> str:
     return apart(plain_money(cents))
 

@@ -4,7 +4,7 @@ from __future__ import annotations
 from html import escape
 from typing import Sequence
 
-from life_tools.reports.report_pages import apart
+from life_tools.reports.report_pages import all_apart, apart
 from life_tools.common.program import UNPROVED
 from life_tools.reports.sheets import MOST_COLUMNS, TEXT, Part, Row, Sheet, cell_text, parts_of
 from life_tools.reports.whole_pages import fact_list, whole_page
@@ -69,7 +69,7 @@ def section(sheet: Sheet) -> str:
     """Returns a sheet with its notes and checks."""
     tables = [line for part in parts_of(sheet) for line in table_of(sheet, part)]
     return "\n".join([f"<section id=\"{escape(sheet.name)}\"><h2>{escape(sheet.title)}</h2>", *tables,
-                      *(f"<p>{escape(note)}</p>" for note in sheet.notes),
+                      *(f"<p>{escape(all_apart(note))}</p>" for note in sheet.notes),
                       "<ul>", *(f"<li>{escape(check)}</li>" for check in sheet.checks), "</ul></section>"])
 
 

@@ -10,7 +10,7 @@ from typing import Sequence
 from life_tools.audit.flags import FLAGS
 from life_tools.common.formats import FIRST_DAY, MOST_COMMANDS, Wrong, money
 from life_tools.journal.day_columns import number_at
-from life_tools.reports.report_pages import AMOUNT, apart
+from life_tools.reports.report_pages import all_apart
 from life_tools.valuations.printed_books import row_of
 from life_tools.reports.wording import STATUS_WORDS
 from life_tools.window.asked import Asked, BadRequest
@@ -174,7 +174,7 @@ def sample(book: View, asked: Asked) -> Answer:
         ("The sample as a file", "sample.txt"), ("Papers to print", "papers.html"), ("Letters to print", "letters.html"),
         ("Letters as CSV", "letters.csv"))]
     values = {"table": table, "count": len(rows), "shown": min(len(rows), MOST_SHOWN), "words": words,
-              "remarks": AMOUNT.sub(lambda it: apart(it[0]), run.remarks).splitlines(),
+              "remarks": all_apart(run.remarks).splitlines(),
               "files": files, "says": SIZE_WORDS[str(words["by"])], "of": MEASURES[str(words["measure"])],
               "back": back_link(book, words["on"]), "file": named(words, "sample", "txt")}
     return Page("sample.html", f"Sample of {words['on']}", values)

@@ -9,7 +9,7 @@ from life_tools.journal.day_columns import number_at
 from life_tools.common.arrays import np
 from life_tools.common.formats import MEASURES
 from life_tools.reports.provenance import provenance
-from life_tools.reports.report_pages import AMOUNT, apart, money
+from life_tools.reports.report_pages import all_apart, apart, money
 from life_tools.common.revisions import revision
 from life_tools.reports.sheets import BY_BOUNDS, HEADS
 from life_tools.reports import charts
@@ -176,7 +176,7 @@ def moved_rows(run: ToolRun) -> tuple[list[list[str]], list[str]]:
             rows.append([parts[1].strip(), *parts.groups()[1:]])
         else:
             said.append(line.strip().replace("`", ""))
-    return rows, [AMOUNT.sub(lambda it: apart(it[0]), each) for each in said if each]
+    return rows, [all_apart(each) for each in said if each]
 
 
 def movement(book: View, asked: Asked) -> Answer:

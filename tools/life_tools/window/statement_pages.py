@@ -5,7 +5,7 @@ import csv
 import os
 from typing import Sequence
 
-from life_tools.reports.report_pages import apart, money
+from life_tools.reports.report_pages import all_apart, apart, money
 from life_tools.reports.sheet_files import NOTE_ON
 from life_tools.common.program import UNPROVED
 from life_tools.window.audit_pages import measure_on
@@ -95,7 +95,7 @@ def sheet_table(book: View, words: dict[str, str], name: str, caption: str, name
 
 def told_of(rows: list[list[str]]) -> tuple[list[list[str]], dict[str, list[str]]]:
     """Returns the facts, and the notes on each sheet."""
-    notes = {name: [says for fact, says in rows if fact == NOTE_ON + name] for name in TITLES}
+    notes = {name: [all_apart(says) for fact, says in rows if fact == NOTE_ON + name] for name in TITLES}
     return [row for row in rows if not row[0].startswith(NOTE_ON)], notes
 
 
