@@ -15,8 +15,9 @@ from typing import Callable
 
 import pytest
 
-from tests.support.folders import EXAMPLES, Folder
+from tests.support.folders import Folder
 from tests.support.program import ROOT, Program
+from tests.support.shown import cents, money
 from tests.support.tools import Ended
 
 EMPTY = b"\x01LIFEJRNL\x00\x01\x00\x40\x00\x00\x00\x00\x00"
@@ -24,31 +25,9 @@ BOOKS = ("book1", "book2", "book3")
 VALUE = ["books", "books.csv", "value", "2010-12-31"]
 
 
-@pytest.fixture(scope="module")
-def drawn(tmp_path_factory: pytest.TempPathFactory) -> Path:
-    folder = tmp_path_factory.mktemp("three")
-    words = [sys.executable, str(EXAMPLES / "many_books.py"), ".", "3", "120"]
-    subprocess.run(words, cwd=folder, check=True, capture_output=True)
-    return folder
-
-
-@pytest.fixture
-def three(folder: Folder, drawn: Path) -> Folder:
-    shutil.copytree(drawn, folder.path, dirs_exist_ok=True)
-    return folder
-
-
 def each(three: Folder, *words: str) -> list[str]:
     """Returns the lines that the program prints for each book, after the book's name."""
     return [f"{name},{line}" for name in BOOKS for line in three.below(name).life(*words).out.splitlines()]
-
-
-def cents(text: str) -> int:
-    return int(text.replace(".", ""))
-
-
-def money(value: int) -> str:
-    return f"{value // 100}.{value % 100:02}"
 
 
 def added(lines: list[str]) -> str:
@@ -84,14 +63,6 @@ def test_states_and_checkpoints(three: Folder) -> None:
     assert found[:len(lines)] == lines and "all,count,720,3,3" in found[len(lines):]
     wanted = "".join(f"{name},checkpoint,240\n" for name in BOOKS) + "all,checkpoint,720,3,3\n"
     assert three.printed("books", "books.csv", "checkpoint") == wanted
-
-
-def test_positions_of_a_day(three: Folder) -> None:
-    """The days of a drawn book don't rise, so each position lacks a command."""
-    ended = three.tools("books", "books.csv", "position-on", "2004-06-30")
-    alone = [three.tools("position-on", "2004-06-30", f"{name}/journal.life").out.strip() for name in BOOKS]
-    assert ended.status == 1 and re.search("^book3: position [0-9]* lacks commands", ended.err, re.M), ended
-    assert ended.out.splitlines() == [f"{name},{position}" for name, position in zip(BOOKS, alone)]
 
 
 def test_at_a_position_of_each(three: Folder) -> None:

@@ -12,18 +12,11 @@ import pytest
 
 from life_tools.books.runs import Task, run_once
 from tests.support.clusters import Cluster, await_that
-from tests.support.folders import EXAMPLES, Folder
+from tests.support.folders import Folder
 from tests.support.program import ROOT
 
 pytestmark = [pytest.mark.slow, pytest.mark.needs("python:distributed"), pytest.mark.timeout(900)]
 VALUE = ["books", "books.csv", "value", "2010-12-31", "--totals"]
-
-
-@pytest.fixture
-def three(folder: Folder) -> Folder:
-    subprocess.run([sys.executable, str(EXAMPLES / "many_books.py"), ".", "3", "120"], cwd=folder.path, check=True,
-                   capture_output=True)
-    return folder
 
 
 @pytest.fixture

@@ -13,6 +13,7 @@ from life_tools.journal.file import file_of
 from tests.support.folders import Folder
 from tests.support.lived_books import lived
 from tests.support.program import Program
+from tests.support.shown import cents
 
 LIST = ["books", "books.csv"]
 DAYS = ("2015-12-31", "2019-12-31")
@@ -57,13 +58,15 @@ def rows(text: str) -> list[str]:
     return [line for line in found if re.search(r" -?[0-9]+\.[0-9]{2} [0-9-]", line)]
 
 
-def demand_alike(single: str, listed: str, has_books: bool = False) -> None:
-    """Asserts that both texts have the same rows. A list's report may begin with a table of its books, which ends with a
-    total."""
+def of_both(books: Folder, of_list: list[str], of_main: list[str], has_books: bool = False) -> tuple[str, str]:
+    """Returns what is printed for the undivided book and for its parts, and asserts that the rows are the same. A list's report
+    may begin with a table of its books, which ends with a total."""
+    single, listed = books.printed(*of_main, "--folder", "main"), books.printed(*LIST, *of_list)
     found = [line for line in rows(listed) if not line.startswith(("low ", "high "))]
     if has_books and found and found[0].startswith("total "):
         del found[0]
     assert rows(single) == found != []
+    return single, listed
 
 
 # --- reports, movements, statements ---
@@ -71,9 +74,8 @@ def demand_alike(single: str, listed: str, has_books: bool = False) -> None:
 
 @pytest.mark.parametrize("words", ["2019-12-31 --by plan,status --by issue-year", "2019-12-31 --deficiency --by age-band"])
 def test_reports(books: Folder, words: str) -> None:
-    single = books.printed("report", *words.split(), "--folder", "main", "--at", position(books, "p2"))
-    listed = books.printed(*LIST, "report", *words.split(), "--at", "p2.csv")
-    demand_alike(single, listed, has_books=True)
+    report = ["report", *words.split(), "--at"]
+    _, listed = of_both(books, [*report, "p2.csv"], [*report, position(books, "p2")], has_books=True)
     assert {line.split()[0] for line in listed.splitlines() if line.startswith(("low ", "high "))} == {"low", "high"}
 
 
@@ -99,9 +101,8 @@ def test_a_report_by_rows_that_were_left(books: Folder) -> None:
 
 def test_movements(books: Folder) -> None:
     first, last = position(books, "p1"), position(books, "p2")
-    single = books.printed("movement", DAYS[0], first, DAYS[1], last, "--folder", "main", "--mean")
-    listed = books.printed(*LIST, "movement", *DAYS, "--from", "p1.csv", "--at", "p2.csv", "--mean")
-    demand_alike(single, listed)
+    single, listed = of_both(books, ["movement", *DAYS, "--from", "p1.csv", "--at", "p2.csv", "--mean"],
+                             ["movement", DAYS[0], first, DAYS[1], last, "--mean"])
     assert len(rows(single)) == 12
     cash, = (line for line in single.splitlines() if line.startswith("premiums received"))
     assert cash in listed.splitlines()
@@ -118,13 +119,6 @@ def test_statements(books: Folder) -> None:
 
 
 # --- classes ---
-
-
-def of_both(books: Folder, listed: list[str], single: list[str], has_books: bool = False) -> tuple[str, str]:
-    """Returns what is printed for the undivided book and for its parts, and asserts that the rows are the same."""
-    one, other = books.printed(*single, "--folder", "main"), books.printed(*LIST, *listed)
-    demand_alike(one, other, has_books)
-    return one, other
 
 
 def test_a_report_by_classes(books: Folder) -> None:
@@ -215,7 +209,7 @@ def walk(total: int, start: int, lines: list[str]) -> list[str]:
     found, point, ahead = [], start, 0
     for line in lines:
         fields = line.split(",")
-        ahead += int(fields[6].replace(".", "")) * 12 if len(fields) == 7 else 0
+        ahead += cents(fields[6]) * 12 if len(fields) == 7 else 0
         if point < ahead:
             found.append(line)
         while point < ahead:
@@ -300,7 +294,7 @@ def test_a_statement_as_a_workbook(books: Folder) -> None:
 
 @pytest.mark.parametrize("words", ["report 2019-12-31", "movement 2015-12-31 2019-12-31 --from p1.csv",
                                    "statement 2015-12-31 2019-12-31 --from p1.csv", "due 2019-12-31"])
-def test_a_damaged_book_is_told(books: Folder, words: str) -> None:
+def test_a_damaged_book_is_reported(books: Folder, words: str) -> None:
     books.below("high").damage(9)
     ended = books.tools(*LIST, *words.split(), "--at", "p2.csv")
     assert ended.status != 0 and "tried once more: high" in ended.err, ended
