@@ -4,11 +4,10 @@ import errno
 import os
 import shutil
 import subprocess
-import tempfile
 import time
 from functools import partial
 from pathlib import Path
-from typing import Callable, Iterator
+from typing import Callable
 
 import pytest
 
@@ -17,7 +16,6 @@ from life_tools.desk.entries import Entry, Log
 from life_tools.desk.records import at_moment
 from tests.support.desks import Desk
 from tests.support.folders import Folder
-from tests.support.missing import lacks
 from tests.support.tools import nothing
 
 ISSUE = "1,issue,{},2024-05-01,whole,40,0,1000.00,40.00\n"
@@ -235,19 +233,6 @@ def test_a_file_without_its_record_is_reported(desk: Desk) -> None:
 
 
 # --- disks ---
-
-@pytest.fixture
-def memory(desk: Desk) -> Iterator[Path]:
-    """The inbox lies on another file system, from which a file is copied."""
-    with tempfile.TemporaryDirectory(dir="/dev/shm") as place:
-        if os.stat(place).st_dev == desk.folder.path.stat().st_dev:
-            lacks("the folder of the test lies in memory, too")
-        inbox = Path(place) / "inbox"
-        inbox.mkdir()
-        desk.folder.path.joinpath("inbox").rmdir()
-        desk.folder.path.joinpath("inbox").symlink_to(inbox)
-        yield inbox
-
 
 def demand_not_read(desk: Desk, first: Callable[[], None]) -> None:
     """Hands a file in, and asserts that a `day` that does this first reports that the file could not be read."""

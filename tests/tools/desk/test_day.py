@@ -4,7 +4,6 @@ import fcntl
 import os
 import signal
 import subprocess
-import tempfile
 import time
 from pathlib import Path
 
@@ -15,7 +14,6 @@ from life_tools.desk.day import Day
 from life_tools.desk.entries import Log
 from tests.support.desks import TODAY, Desk, started
 from tests.support.folders import Folder
-from tests.support.missing import lacks
 from tests.support.tools import nothing
 
 ISSUE = "1,issue,7001,2024-05-01,endowment,0,3,1000.00,400.00"
@@ -38,6 +36,14 @@ def begun(desk: Desk) -> Desk:
         "inbox/monday.csv,log/000001-{}-monday,3,0,0,0\n".format(desk.entry_folder(1).name[7:17])
     assert desk.inbox == []
     return desk
+
+
+@pytest.fixture
+def by_q(begun: Desk) -> Desk:
+    """The desk with a basis: table Q without interest."""
+    begun.folder.take("q.xml")
+    begun.folder.write("basis.csv", "1900-01-01,q.xml,0\n")
+    return begun
 
 
 # --- a book is begun only if that is asked for ---
@@ -110,17 +116,10 @@ def test_what_is_no_script_stays(begun: Desk) -> None:
     assert begun.inbox == ["empty.csv", "folder.csv", "link.csv", "pipe.csv"]
 
 
-def test_a_file_of_another_file_system_is_copied_compared_and_removed(begun: Desk) -> None:
-    """The inbox lies in memory, so the file can't be renamed into log/."""
-    with tempfile.TemporaryDirectory(dir="/dev/shm") as place:
-        if os.stat(place).st_dev == begun.folder.path.stat().st_dev:
-            lacks("the folder of the test lies in memory, too")
-        inbox = begun.folder.path / "inbox"
-        inbox.rmdir()
-        inbox.symlink_to(place)
-        begun.hand_in("a.csv", "1,settle,7001,2024-06-01,1.00\n")
-        begun.day()
-        assert os.listdir(place) == []
+def test_a_file_of_another_file_system_is_copied_compared_and_removed(begun: Desk, memory: Path) -> None:
+    begun.hand_in("a.csv", "1,settle,7001,2024-06-01,1.00\n")
+    begun.day()
+    assert os.listdir(memory) == []
     assert (begun.entry_folder(2) / "handed-in.csv").read_text() == "1,settle,7001,2024-06-01,1.00\n" and begun.count() == 4
 
 
@@ -202,25 +201,21 @@ IMPLAUSIBLE = {
 
 
 @pytest.mark.parametrize("row", IMPLAUSIBLE)
-def test_what_is_not_plausible_waits_for_a_person(begun: Desk, row: str) -> None:
-    begun.folder.take("q.xml")
-    begun.folder.write("basis.csv", "1900-01-01,q.xml,0\n")
+def test_what_is_not_plausible_waits_for_a_person(by_q: Desk, row: str) -> None:
     policy = row.split(",")[2]
-    begun.hand_in("a.csv", f"{row}\n1,settle,{policy},2024-05-30,5.00\n")
-    ended = begun.day(status=1)
+    by_q.hand_in("a.csv", f"{row}\n1,settle,{policy},2024-05-30,5.00\n")
+    ended = by_q.day(status=1)
     assert f"{row}: held: {IMPLAUSIBLE[row]}" in ended.err and f"a row of policy {policy} before it is held" in ended.err
-    assert ended.out.endswith("-a,0,0,2,0\n") and begun.count() == 3
+    assert ended.out.endswith("-a,0,0,2,0\n") and by_q.count() == 3
 
 
-def test_the_band_goes_by_the_net_premium(begun: Desk) -> None:
+def test_the_band_goes_by_the_net_premium(by_q: Desk) -> None:
     """Computed by hand from table Q (rates 0.1, 0.2, 0.25) without interest, for an endowment of 3 years: the benefits are 1
     and the annuity is 1 + 0.9 + 0.72 = 2.62, so for 1000.00 the net premium is 381.68. Half of it is 190.84, so 190.83 is
     below the limit."""
-    begun.folder.take("q.xml")
-    begun.folder.write("basis.csv", "1900-01-01,q.xml,0\n")
     row = "1,issue,{},2024-05-01,endowment,0,3,1000.00,{}\n"
-    begun.hand_in("a.csv", row.format(7201, "190.84") + row.format(7202, "190.83"))
-    ended = begun.day(status=1)
+    by_q.hand_in("a.csv", row.format(7201, "190.84") + row.format(7202, "190.83"))
+    ended = by_q.day(status=1)
     assert "7202,2024-05-01,endowment,0,3,1000.00,190.83: held: its premium 190.83 lies outside 0.5 to 4 times the net premium " \
         "381.68 of basis.csv" in ended.err
     assert ended.out.endswith("-a,1,0,1,0\n")
@@ -237,14 +232,12 @@ def test_the_limits_themselves_are_allowed(begun: Desk) -> None:
     assert "its day is 401 days before today" in ended.err
 
 
-def test_desk_toml_sets_the_limits(begun: Desk) -> None:
-    begun.folder.take("q.xml")
-    begun.folder.write("basis.csv", "1900-01-01,q.xml,0\n")
-    begun.folder.write("desk.toml", "[issues]\ndays_back = 50000\ndays_ahead = 40000\npremium_below_amount = false\n"
-                       "least_of_net = 0\nmost_of_net = 10\n")
+def test_desk_toml_sets_the_limits(by_q: Desk) -> None:
+    by_q.folder.write("desk.toml", "[issues]\ndays_back = 50000\ndays_ahead = 40000\npremium_below_amount = false\n"
+                      "least_of_net = 0\nmost_of_net = 10\n")
     rows = [row for row in IMPLAUSIBLE if row.split(",")[2] in ("7101", "7102", "7103", "7104")]
-    begun.hand_in("a.csv", "\n".join(rows) + "\n")
-    assert begun.day().out.endswith("-a,4,0,0,0\n")
+    by_q.hand_in("a.csv", "\n".join(rows) + "\n")
+    assert by_q.day().out.endswith("-a,4,0,0,0\n")
 
 
 @pytest.mark.parametrize("text, says", [
@@ -392,21 +385,14 @@ def test_a_program_that_cannot_be_run_leaves_the_file(begun: Desk) -> None:
 
 # --- a damaged book, and one in use ---
 
-def test_a_damaged_book_is_never_written_to(begun: Desk) -> None:
-    begun.folder.damage(1)
+@pytest.mark.parametrize(("record", "says"), [(1, "bytes follow byte 82"), (2, "has 2 commands, and had 3 by ./log")])
+def test_a_damaged_book_is_never_written_to(begun: Desk, record: int, says: str) -> None:
+    """A damaged last commit byte looks like what a crash leaves, but the log recorded more postings."""
+    begun.folder.damage(record)
     data = begun.folder.journal.read_bytes()
     begun.hand_in("a.csv", "1,settle,7001,2024-06-01,1.00\n")
     ended = begun.day(status=1)
-    assert "journal.life is damaged, so nothing is posted" in ended.err and begun.inbox == ["a.csv"]
-    assert begun.folder.journal.read_bytes() == data
-
-
-def test_the_last_record_that_is_gone_is_noticed_by_the_log(begun: Desk) -> None:
-    """A damaged last commit byte looks like what a crash leaves, but the log recorded more postings."""
-    begun.folder.damage(2)
-    data = begun.folder.journal.read_bytes()
-    begun.hand_in("a.csv", "1,settle,7001,2024-06-01,1.00\n")
-    assert "has 2 commands, and had 3 by ./log" in begun.day(status=1).err
+    assert "journal.life is damaged, so nothing is posted" in ended.err and says in ended.err and begun.inbox == ["a.csv"]
     assert begun.folder.journal.read_bytes() == data
 
 

@@ -2,30 +2,18 @@
 import hashlib
 import os
 import random
-import tempfile
-from pathlib import Path
-from typing import Iterator
 
 import pytest
 
 from tests.support.desks import Desk
 from tests.support.folders import Folder
 from tests.support.killed_days import Trial
-from tests.support.missing import lacks
 
 # the number of kills; another number may be set, such as for a long trial by hand
 SOME, MANY = 25, int(os.environ.get("LIFE_TRIAL_KILLS", "120"))
 SEED = int(os.environ.get("LIFE_TRIAL_SEED", "70"))
 FEW = 12
 JUDGED_EACH = 25
-
-
-@pytest.fixture
-def memory(folder: Folder) -> Iterator[Path]:
-    with tempfile.TemporaryDirectory(dir="/dev/shm") as place:
-        if os.stat(place).st_dev == folder.path.stat().st_dev:
-            lacks("the folder of the test lies in memory, too")
-        yield Path(place)
 
 
 def killed(folder: Folder, seed: int, kills: int) -> Trial:
@@ -52,9 +40,9 @@ def test_killed_days_lose_nothing_and_double_nothing(folder: Folder) -> None:
     killed(folder, SEED, SOME)
 
 
-def test_an_inbox_on_another_file_system_loses_nothing(folder: Folder, memory: Path) -> None:
+@pytest.mark.usefixtures("memory")
+def test_an_inbox_on_another_file_system_loses_nothing(folder: Folder) -> None:
     """Each claim is a copy, which may be cut anywhere."""
-    folder.path.joinpath("inbox").symlink_to(memory)
     killed(folder, SEED + 2, FEW)
 
 
