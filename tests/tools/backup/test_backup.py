@@ -130,10 +130,10 @@ def test_only_what_was_added_is_written_and_nothing_is_locked(book: Folder, copy
 
 # --- what may not be safe yet ---
 
-@pytest.mark.parametrize("behind, count", [(b"", 4), (bytes(30), 5), (bytes(65), 5)],
+@pytest.mark.parametrize("after, count", [(b"", 4), (bytes(30), 5), (bytes(65), 5)],
                          ids=["not acknowledged", "the next one is being written", "the next one is written"])
-def test_of_a_run_that_goes_on_the_last_posting_waits_for_the_next(book: Folder, copy: Path, behind: bytes, count: int) -> None:
-    book.write("journal.life", issues(5) + behind)
+def test_of_a_run_that_goes_on_the_last_posting_waits_for_the_next(book: Folder, copy: Path, after: bytes, count: int) -> None:
+    book.write("journal.life", issues(5) + after)
     with book.in_use():
         said = backed_up(book, [str(copy)], count, count)
     assert ("1 postings of a run that goes on" in said.err) == (count == 4)
@@ -159,7 +159,7 @@ def test_nothing_is_copied_where_the_journals_sync_fails(book: Folder, copy: Pat
 
 # --- what differs ---
 
-def turned(path: Path, place: int) -> None:
+def flip_a_bit(path: Path, place: int) -> None:
     with open(path, "r+b") as file:
         file.seek(place)
         byte = file.read(1)[0]
@@ -168,8 +168,9 @@ def turned(path: Path, place: int) -> None:
 
 
 CHANGES: dict[str, tuple[Callable[[Folder, Path], object], str]] = {
-    "a posting of the journal": (lambda book, copy: turned(book.journal, gate_of(2) + 40), r"journal\.life: its first 342 bytes"),
-    "a posting of the copy": (lambda book, copy: turned(copy / "journal.prefix", gate_of(2) + 40), "its first 342 bytes"),
+    "a posting of the journal": (lambda book, copy: flip_a_bit(book.journal, gate_of(2) + 40),
+                                 r"journal\.life: its first 342 bytes"),
+    "a posting of the copy": (lambda book, copy: flip_a_bit(copy / "journal.prefix", gate_of(2) + 40), "its first 342 bytes"),
     "a shorter journal": (lambda book, copy: book.write("journal.life", issues(4)), r"journal\.life: its first 342 bytes"),
     "a shorter copy": (lambda book, copy: os.truncate(copy / "journal.prefix", gate_of(4)), "342"),
 }
@@ -189,7 +190,7 @@ def test_a_difference_stops_it_and_nothing_is_changed(change: Callable[[Folder, 
 def test_a_damaged_book_is_not_copied(book: Folder, copy: Path) -> None:
     backed_up(book, [str(copy)], 5, 5)
     book.write("journal.life", issues(9))
-    turned(book.journal, gate_of(7))
+    flip_a_bit(book.journal, gate_of(7))
     ended = book.tools("backup", str(copy))
     assert ended.status == 1 and "nothing was copied" in ended.err, ended
     assert prefix_of(copy) == issues(5)[:gate_of(5)]
@@ -239,7 +240,7 @@ def test_a_book_is_not_overwritten(book: Folder, place: list[str]) -> None:
 
 def test_a_changed_copy_is_not_restored(book: Folder, place: list[str], copy: Path) -> None:
     backed_up(book, place, 5, 5)
-    turned(copy / "journal.prefix", gate_of(3) + 10)
+    flip_a_bit(copy / "journal.prefix", gate_of(3) + 10)
     ended = book.tools("restore", *place, "--folder", "../restored")
     assert ended.status == 1 and "nothing was restored" in ended.err, ended
     assert not (book.path.parent / "restored" / "journal.life").exists()
@@ -283,7 +284,7 @@ def test_every_second(book: Folder, copy: Path) -> None:
         # `backup` looks again after a second, and copies the new posting
         book.write("journal.life", issues(6))
         assert [backup.stdout.readline(), backup.stdout.readline()] == ["count,6\n", "added,1\n"]
-        turned(book.journal, gate_of(2) + 40)
+        flip_a_bit(book.journal, gate_of(2) + 40)
         assert backup.wait(30) == 1
     assert hashlib.sha256(prefix_of(copy)).digest() == hashlib.sha256(issues(6)[:gate_of(6)]).digest()
 
