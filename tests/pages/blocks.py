@@ -12,7 +12,11 @@ import select
 import shutil
 import subprocess
 import time
+from pathlib import Path
 from typing import Any
+
+from tests.support.clones import copy_tracked, prove
+from tests.support.program import ROOT
 
 SECONDS = 300
 ENDED = "page-command-ended"
@@ -99,31 +103,18 @@ class Session:
         self.shell.wait()
 
 
-def copy_repository(root: str, program: str, top: str) -> None:
-    """Copies the tracked files, and puts the program where the launcher looks for it."""
-    files = subprocess.run(["git", "ls-files", "-z"], cwd=root, stdout=subprocess.PIPE, check=True).stdout.decode().split("\0")
-    for name in filter(None, files):
-        path = os.path.join(top, name)
-        os.makedirs(os.path.dirname(path), exist_ok=True)
-        if os.path.exists(os.path.join(root, name)):
-            shutil.copy2(os.path.join(root, name), path)
-    for folder, name in (("crates/life_cli/out", "life_cli"), ("out/preview", "life_preview")):
-        os.makedirs(os.path.join(top, folder), exist_ok=True)
-        shutil.copy(program, os.path.join(top, folder, name))
-    noting = 'root=$PWD && launcher=$root/tools/launcher && . tools/launcher/shared.sh && note_proof "$1" "$(sources_sum)"'
-    subprocess.run(["sh", "-c", noting, "sh", "crates/life_cli/out/life_cli"], cwd=top, check=True, stderr=subprocess.DEVNULL)
-
-
-def run_page(page: str, root: str, program: str, folder: str) -> tuple[int, list[Any]]:
+def run_page(page: str, program: Path, folder: Path) -> tuple[int, list[Any]]:
     """Runs a page's commands; returns their number, and what differs from the page."""
-    with open(os.path.join(root, page), encoding="utf-8") as file:
-        commands = commands_in(page, file.read())
+    commands = commands_in(page, (ROOT / page).read_text(encoding="utf-8"))
     if not commands:
         return 0, []
-    top = os.path.realpath(os.path.join(folder, page.replace("/", "-")))
-    copy_repository(root, program, top)
-    os.makedirs(top + ".home")
-    session = Session(top, top + ".home")
+    top, home = folder.resolve() / "clone", folder / "home"
+    copy_tracked(top)
+    prove(top, program)
+    (top / "out" / "preview").mkdir()
+    shutil.copy(program, top / "out" / "preview" / "life_preview")
+    home.mkdir()
+    session = Session(str(top), str(home))
     wrong: list[str] = []
     for command in commands:
         printed = session.run(command.text)

@@ -2,7 +2,6 @@
 import html.parser
 import os
 import pathlib
-import sys
 import urllib.parse
 
 # what a page would fetch by itself
@@ -63,16 +62,3 @@ def wrong_links(folder: pathlib.Path) -> tuple[int, list[str]]:
     pages = {file: Page(file) for file in sorted(folder.resolve().rglob("*.html"))}
     return (sum(len(page.links) + len(page.fetched) for page in pages.values()),
             [each for file in pages for each in wrong_in(file, pages)])
-
-
-def main() -> int:
-    """usage: python3 tests/pages/links.py FOLDER LEAST: the status is 1 if a link is wrong, or if there are fewer than LEAST
-    links."""
-    links, wrong = wrong_links(pathlib.Path(sys.argv[1]))
-    print(*wrong[:20], sep="\n")
-    print(f"{links} links")
-    return 1 if wrong or links < int(sys.argv[2]) else 0
-
-
-if __name__ == "__main__":
-    sys.exit(main())

@@ -1,10 +1,8 @@
 """Tests the documentation: every command shown prints what is shown, every link leads somewhere, and the language keeps to its
 rules."""
 import ast
-import os
 import pathlib
 import re
-import shutil
 import subprocess
 import sys
 
@@ -12,20 +10,13 @@ import pytest
 
 from tests.pages.blocks import commands_in, run_page
 from tests.pages.links import wrong_links
+from tests.support.clones import copy_tracked
+from tests.support.program import ROOT as TOP, Program
 
-TOP = pathlib.Path(__file__).resolve().parents[2]
 PAGES = sorted(str(page.relative_to(TOP)) for page in [*TOP.glob("*.md"), TOP / "tools/README.md", *(TOP / "docs").rglob("*.md")])
 # what people read besides the pages: help texts and messages
 MESSAGES = sorted(str(file.relative_to(TOP)) for file in [*TOP.glob("tools/launcher/*.sh"), *TOP.glob("tools/installed/*"),
                                                           *TOP.glob("tools/life_tools/**/*.py")])
-
-
-def program() -> str:
-    """Returns the program that the commands run: LIFE_PROGRAM, the preview, or the proved one."""
-    for place in (os.environ.get("LIFE_PROGRAM"), TOP / "out/preview/life_preview", TOP / "crates/life_cli/out/life_cli"):
-        if place and os.access(place, os.X_OK):
-            return os.path.abspath(place)
-    pytest.skip("there is no program: sh life try state builds a preview")
 
 
 def with_commands() -> list[str]:
@@ -34,30 +25,25 @@ def with_commands() -> list[str]:
 
 @pytest.mark.timeout(600)
 @pytest.mark.parametrize("page", with_commands())
-def test_commands_print_what_the_page_shows(page: str, tmp_path: pathlib.Path) -> None:
-    count, wrong = run_page(page, str(TOP), program(), str(tmp_path))
+def test_commands_print_what_the_page_shows(page: str, tmp_path: pathlib.Path, program: Program) -> None:
+    count, wrong = run_page(page, program.path, tmp_path)
     assert count and not wrong, "\n".join(wrong)
 
 
 @pytest.mark.timeout(300)
 def test_the_site_builds_and_every_link_leads_somewhere(tmp_path: pathlib.Path) -> None:
     """The whole site, including the pages of clauses, is built from a copy, so nothing is written into the clone."""
-    copy = tmp_path / "clone"
-    files = subprocess.run(["git", "ls-files", "-z"], cwd=TOP, stdout=subprocess.PIPE, check=True).stdout.decode().split("\0")
-    for name in filter(None, files):
-        (copy / name).parent.mkdir(parents=True, exist_ok=True)
-        shutil.copy2(TOP / name, copy / name)
-    built = subprocess.run(["/usr/bin/python3", "tools/site/build.py", str(tmp_path / "site")], cwd=copy, stdout=subprocess.PIPE,
-                           stderr=subprocess.STDOUT, check=False)
+    copy_tracked(tmp_path / "clone")
+    built = subprocess.run(["/usr/bin/python3", "tools/site/build.py", str(tmp_path / "site")], cwd=tmp_path / "clone",
+                           stdout=subprocess.PIPE, stderr=subprocess.STDOUT, check=False)
     assert built.returncode == 0, built.stdout.decode()
     links, wrong = wrong_links(tmp_path / "site")
     assert links > 8000, f"only {links} links were found"
     assert not wrong, "\n".join(wrong[:40])
 
 
+@pytest.mark.needs("dot")
 def test_the_diagrams_are_those_of_their_sources(tmp_path: pathlib.Path) -> None:
-    if shutil.which("dot") is None:
-        pytest.skip("Graphviz is missing: apt-get install graphviz")
     subprocess.run([sys.executable, str(TOP / "docs/diagrams/draw.py"), str(tmp_path)], check=True)
     made = sorted(file.name for file in tmp_path.glob("*.svg"))
     assert made == sorted(file.name for file in (TOP / "docs/diagrams").glob("*.svg"))
@@ -125,9 +111,8 @@ def test_generated_blocks_agree() -> None:
     assert checked.returncode == 0, checked.stderr.decode()
 
 
+@pytest.mark.needs("codespell")
 def test_spelling() -> None:
-    if shutil.which("codespell") is None:
-        pytest.skip("codespell is missing: apt-get install codespell")
     checked = subprocess.run(["codespell", "--ignore-words", "tests/pages/words.txt", *PAGES, *MESSAGES], cwd=TOP,
                              stdout=subprocess.PIPE, check=False)
     assert checked.returncode == 0, checked.stdout.decode()

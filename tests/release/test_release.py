@@ -16,11 +16,12 @@ import pytest
 
 from tests.pages.links import wrong_links
 from tests.support.browser import DESK, Browser
+from tests.support.clones import copy_tracked, prove
 from tests.support.folders import EXAMPLES
 from tests.support.missing import need
 from tests.support.program import ROOT, Program
 from tests.support.tools import Ended
-from tests.tools.launcher.conftest import note_proof, ran
+from tests.tools.launcher.conftest import ran
 
 pytestmark = [pytest.mark.needs("git", "dpkg-deb", "lintian", "rt", "python:mkdocs", "python:pymdownx"), pytest.mark.slow,
               pytest.mark.alone, pytest.mark.timeout(1800)]
@@ -53,13 +54,6 @@ def commit(clone: Path, message: str, when: str = NOON) -> None:
     git(clone, "commit", "-q", "-m", message, when=when)
 
 
-def prove(clone: Path, program: Program) -> None:
-    """Makes the program count as proved in a clone."""
-    (clone / "crates" / "life_cli" / "out").mkdir(exist_ok=True)
-    shutil.copy(program.path, clone / "crates" / "life_cli" / "out" / "life_cli")
-    note_proof(clone)
-
-
 def version_of(clone: Path) -> str:
     found = re.search(r"^## ([0-9.]+) ", (clone / "CHANGELOG.md").read_text(encoding="utf-8"), re.M)
     assert found
@@ -70,20 +64,17 @@ def version_of(clone: Path) -> str:
 def revision(program: Program, tmp_path_factory: pytest.TempPathFactory) -> Path:
     """A copy of the repository with one commit, whose program counts as proved."""
     clone = tmp_path_factory.mktemp("revision") / "clone"
-    clone.mkdir()
-    named = subprocess.run(["git", "ls-files", "-z"], cwd=ROOT, stdout=subprocess.PIPE, check=True).stdout
-    there = b"\0".join(name for name in named.split(b"\0") if name and os.path.lexists(os.path.join(os.fsencode(ROOT), name)))
-    subprocess.run(["xargs", "-0", "cp", "--parents", "-p", "-t", clone], cwd=ROOT, input=there, check=True)
+    copy_tracked(clone)
     git(clone, "init", "-q")
     commit(clone, "what is packed")
-    prove(clone, program)
+    prove(clone, program.path)
     return clone
 
 
 @pytest.fixture
 def clone(revision: Path, tmp_path: Path, program: Program) -> Path:
     subprocess.run(["git", "clone", "-q", revision, tmp_path / "clone"], check=True)
-    prove(tmp_path / "clone", program)
+    prove(tmp_path / "clone", program.path)
     return tmp_path / "clone"
 
 

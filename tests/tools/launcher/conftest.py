@@ -8,10 +8,9 @@ from typing import Sequence
 
 import pytest
 
-from tests.support.program import ROOT, Program
+from tests.support.clones import copy_tracked, prove
+from tests.support.program import Program
 from tests.support.tools import Ended
-
-NOTE = 'root=$0 && . "$root/tools/launcher/shared.sh" && note_proof "$root/crates/life_cli/out/life_cli" "$(sources_sum)"'
 
 
 def ran(words: Sequence[str | Path], folder: Path, given: str = "", env: dict[str, str] | None = None) -> Ended:
@@ -21,21 +20,12 @@ def ran(words: Sequence[str | Path], folder: Path, given: str = "", env: dict[st
     return Ended(done.returncode, done.stdout.decode("utf-8", "replace"), done.stderr.decode("utf-8", "replace"))
 
 
-def note_proof(clone: Path) -> None:
-    subprocess.run(["sh", "-c", NOTE, clone], check=True)
-
-
 @pytest.fixture(scope="session")
 def proved_clone(program: Program, tmp_path_factory: pytest.TempPathFactory) -> Path:
     """A copy of the repository whose program counts as proved."""
     clone = tmp_path_factory.mktemp("clone")
-    named = subprocess.run(["git", "ls-files", "-z", "life", ".ci", "tools", "crates", "crates.txt", "CHANGELOG.md"], cwd=ROOT,
-                           stdout=subprocess.PIPE, check=True).stdout
-    subprocess.run(["xargs", "-0", "cp", "--parents", "-p", "-t", clone], cwd=ROOT, input=named, check=True)
-    out = clone / "crates" / "life_cli" / "out"
-    out.mkdir()
-    shutil.copy(program.path, out / "life_cli")
-    note_proof(clone)
+    copy_tracked(clone, "life", ".ci", "tools", "crates", "crates.txt", "CHANGELOG.md")
+    prove(clone, program.path)
     return clone
 
 

@@ -7,7 +7,8 @@ from pathlib import Path
 
 import pytest
 
-from tests.tools.launcher.conftest import note_proof, ran
+from tests.support.clones import note_proof
+from tests.tools.launcher.conftest import ran
 
 
 def is_run(clone: Path) -> bool:

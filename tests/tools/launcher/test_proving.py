@@ -6,9 +6,10 @@ from pathlib import Path
 
 import pytest
 
+from tests.support.clones import note_proof
 from tests.support.launchers import is_stopped, stopped
 from tests.support.tools import Ended
-from tests.tools.launcher.conftest import note_proof, ran
+from tests.tools.launcher.conftest import ran
 
 # the stand-in for `rt` does what STAND_IN says; it proves nothing
 KIT = """#!/bin/sh
