@@ -109,7 +109,8 @@ def test_a_terminal_isnt_sent_what_it_obeys(small_office: Folder) -> None:
     small_office.write("evil.csv", f'1,premium,7001,2022-01-01,"{evil}"\n')
     for words in (("explain", "badscript,1,5", "evil.csv"), ("check", "evil.csv"), ("read", f"no{evil}file"),
                   ("table", "check", "evil.csv")):
-        _, shown = on_terminal([sys.executable, TOOLS, *words], small_office.path)
+        program = f"LIFE_PROGRAM={small_office.program.path}"
+        _, shown = on_terminal(["env", program, sys.executable, TOOLS, *words], small_office.path)
         assert "\x1b[2J" not in shown and "\x07" not in shown and shown, shown
         assert "\\x1b[2J" in shown or words[0] != "read"
 
