@@ -38,7 +38,7 @@ def lay_book(folder: Path) -> int:
 @pytest.mark.timeout(1800)
 def test_a_year_end(tmp_path: Path, program: Program) -> None:
     last = lay_book(tmp_path / "main")
-    office = Office(str(tmp_path), str(ROOT / "tools" / "life-tools"), str(program.path))
+    office = Office(tmp_path, program)
     walk = Walk(office, FILES, last)
     walk.administrator()
     walk.actuary()

@@ -36,21 +36,21 @@ class Walk:
         positions = [int(office.tool("position-on", day, "journal.life", status=0)) for day in (ON1, ON2)]
         self.year = Year(ON1, positions[0], ON2, positions[1])
         for name, position in (("opening", positions[0]), ("closing", positions[1])):
-            self.lay_front(name, position)
+            self.lay_prefix(name, position)
         self.export()
-        [[newest]] = sqlite3.connect(office.path("whole.db")).execute("select count(*) from command").fetchall()
+        [[newest]] = sqlite3.connect(office.at("whole.db")).execute("select count(*) from command").fetchall()
         office.same("headroom: commands", count, newest)
         for position, day in zip(positions, (ON1, ON2)):
-            [[upto]] = sqlite3.connect(office.path("whole.db")).execute(
+            [[upto]] = sqlite3.connect(office.at("whole.db")).execute(
                 "select max(position) from command where day <= ?", (day,)).fetchall()
             office.same(f"position-on {day}", position, upto)
         self.due()
 
-    def lay_front(self, name: str, position: int) -> None:
+    def lay_prefix(self, name: str, position: int) -> None:
         """Writes a copy of a prefix of the book, as the page for auditors describes."""
-        with open(self.office.path("main", "journal.life"), "rb") as file:
+        with open(self.office.at("main", "journal.life"), "rb") as file:
             data = file.read(FRONT + RECORD * position)
-        with open(self.office.path(f"{name}.life"), "wb") as file:
+        with open(self.office.at(f"{name}.life"), "wb") as file:
             file.write(data + bytes(1))
 
     def export(self) -> None:
@@ -61,14 +61,14 @@ class Walk:
             for on, position in ((ON1, year.p1), (ON1, year.p2), (ON2, year.p2)):
                 for measure, words in MEASURES.items():
                     if name == "basis" or measure != "mean":
-                        texts[name] += office.life("value", on, "--at", position, *words, "--basis", f"{name}.csv")
+                        texts[name] += office.value(on, "--at", position, *words, "--basis", f"{name}.csv")
             office.keep(texts[name], f"{name}.values")
         office.tool("export", "sqlite", "main/journal.life", "whole.db", where="")
         office.tool("export", "sqlite", "opening.life", "opening.db", where="")
         office.tool("export", "sqlite", "closing.life", "closing.db", "--valuation", "basis.values", where="")
         office.tool("export", "sqlite", "closing.life", "other.db", "--valuation", "other.values", where="")
         classes = [(1, self.half, "main"), (self.half + 1, 2**32 - 1, "other")]
-        opening, closing, other = (office.path(f"{name}.db") for name in ("opening", "closing", "other"))
+        opening, closing, other = (office.at(f"{name}.db") for name in ("opening", "closing", "other"))
         self.sums = Sums(opening, closing, other, year, classes)
 
     def due(self) -> None:
@@ -91,7 +91,7 @@ class Walk:
         office, name = self.office, f"report-{measure}.csv"
         by = [word for key in KEYS for word in ("--by", key)]
         office.tool("report", ON2, "--at", self.year.p2, *by, "--csv", f"../{name}", *words, *classes)
-        with open(office.path(name), newline="", encoding="utf-8") as file:
+        with open(office.at(name), newline="", encoding="utf-8") as file:
             rows = list(csv.reader(file))[1:]
         for key in KEYS:
             # with --deficiency the last two bounds are those of the minimum
@@ -109,7 +109,7 @@ class Walk:
         sheets, parts = f"statement-{measure}", f"parts-{measure}"
         folders = "--csv", f"../{sheets}", "--policies", f"../{parts}"
         office.tool("statement", ON1, year.p1, ON2, year.p2, *words, *classes, *folders)
-        read = {sheet: csv_rows(office.path(sheets, f"{sheet}.csv")) for sheet in SHEETS if sheet != "reserves"}
+        read = {sheet: csv_rows(office.at(sheets, f"{sheet}.csv")) for sheet in SHEETS if sheet != "reserves"}
         office.same("exhibit", read["exhibit"], self.sums.exhibit())
         claims = read["claims"]
         office.same("claims before the report", [cell for cell in claims.pop("reported after the day") if cell], [])
@@ -126,7 +126,7 @@ class Walk:
         rows = {"main": self.basis_rows("basis.csv"), **({"other": self.basis_rows("other.csv")} if classes else {})}
         method = "mean" if measure == "mean" else "terminal"
         wanted = self.sums.reserves(rows, f"CRVM {method}", f"paid up {method}")
-        read = sheet_rows(self.office.path(sheets, "reserves.csv"))
+        read = sheet_rows(self.office.at(sheets, "reserves.csv"))
         found = [[row[0], cents(row[1].rstrip("%")), *row[2:5], *map(value_of, row[5:])]
                  for row in read if row[0] != "total" and not row[2].startswith("no value")]
         self.office.same("reserves", sorted(found), sorted(wanted))
@@ -149,7 +149,7 @@ class Walk:
             office.same("increase: the lines", moved, lines["reserve at the end"][bound])
         for line, kinds in (("released by death", ("claim",)), ("released by lapse", ("lapse",)), ("revived", ("reinstate",))):
             self.count_of(line, lines[line][0], kinds)
-        with open(office.path(parts, "increase.csv"), newline="", encoding="utf-8") as file:
+        with open(office.at(parts, "increase.csv"), newline="", encoding="utf-8") as file:
             rows = list(csv.DictReader(file))
         for line in names:
             exact = sum(cents(row[line]) for row in rows)
@@ -194,7 +194,7 @@ class Walk:
     def class_words(self) -> list[str]:
         self.office.keep(f"1-{self.half},first\n{self.half + 1}-{2**32 - 1},second\n", "classes.csv")
         self.office.keep("first,basis.csv\nsecond,other.csv\n", "bases.csv")
-        return ["--classes", self.office.path("classes.csv"), "--bases", self.office.path("bases.csv")]
+        return ["--classes", self.office.at("classes.csv"), "--bases", self.office.at("bases.csv")]
 
     def classes(self) -> None:
         """Half of the book has another basis, which lacks the first months, so that some rows have a word."""
@@ -254,7 +254,7 @@ class Walk:
         return self.office.tool("books", "books.csv", *words, where="", status=status)
 
     def divide(self, books: int) -> None:
-        whole = sqlite3.connect(self.office.path("whole.db"))
+        whole = sqlite3.connect(self.office.at("whole.db"))
         numbers = [number for number, in whole.execute("select policy from policy order by 1")]
         lasts = [numbers[len(numbers) * place // books - 1] for place in range(1, books)]
         firsts = [1, *(last + 1 for last in lasts)]
@@ -277,7 +277,7 @@ class Walk:
             report = ["report", ON2, *at, "--by", "plan", *words]
             self.listed(*report, "--csv", f"all-report-{measure}")
             groups = {name: [*cells[:3], *cells[-3:]] for name, cells in
-                      csv_rows(office.path(f"all-report-{measure}", "plan.csv")).items() if name != "total"}
+                      csv_rows(office.at(f"all-report-{measure}", "plan.csv")).items() if name != "total"}
             self.sums.take_worths(measure)
             office.same(f"report of all, {measure}", groups, self.sums.report("plan"))
             text = self.listed("movement", *moment, *words)
