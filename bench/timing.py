@@ -165,11 +165,12 @@ class Folder:
                                      f'exec "$@" <{given}', "sh", *command]))
         subprocess.run(words, cwd=self.path, check=True, stdout=subprocess.DEVNULL, preexec_fn=below_watcher)
         found = {}
-        for place, (name, told) in enumerate(zip(commands, json.loads((self.path / "times").read_text())["results"])):
-            if not set(told["exit_codes"]) <= set(statuses):
-                sys.exit(f"wrong: status {told['exit_codes']} of {' '.join(commands[name])}")
-            memory = (self.path / f"memory{place}")
-            found[name] = Run(told["median"], told["user"] + told["system"], median(map(int, memory.read_text().split())) / 1024)
+        for place, (name, result) in enumerate(zip(commands, json.loads((self.path / "times").read_text())["results"])):
+            if not set(result["exit_codes"]) <= set(statuses):
+                sys.exit(f"wrong: status {result['exit_codes']} of {' '.join(commands[name])}")
+            memory = self.path / f"memory{place}"
+            peak = median(map(int, memory.read_text().split())) / 1024
+            found[name] = Run(result["median"], result["user"] + result["system"], peak)
             memory.unlink()
         return found
 
@@ -214,8 +215,8 @@ class Folder:
         read, wrote, last_read = 0, 0, time.perf_counter()
         while run.poll() is None and not wrote:
             try:
-                told = dict(line.split(": ") for line in Path(f"/proc/{run.pid}/io").read_text(encoding="ascii").splitlines())
-                now, wrote = int(told["rchar"]), int(told["wchar"])
+                counts = dict(line.split(": ") for line in Path(f"/proc/{run.pid}/io").read_text(encoding="ascii").splitlines())
+                now, wrote = int(counts["rchar"]), int(counts["wchar"])
             except (OSError, ValueError, KeyError):
                 break
             if now != read:

@@ -30,11 +30,11 @@ def calls_in(body: list[Token]) -> Iterator[Call]:
             continue
         mark = body[at - 1].text if at else ""
         before = path_before(body, at) if mark == "::" else mark if mark == "." else ""
-        behind = at + 1
-        if behind + 1 < len(body) and body[behind].text == "::" and body[behind + 1].text == "<":
-            behind = behind_angles(body, behind + 1)
-        has_arguments = behind < len(body) and body[behind].text == "("
-        yield Call(one.text, before, len(arguments_of(body, behind)) if has_arguments else -1)
+        after = at + 1
+        if after + 1 < len(body) and body[after].text == "::" and body[after + 1].text == "<":
+            after = after_angles(body, after + 1)
+        has_arguments = after < len(body) and body[after].text == "("
+        yield Call(one.text, before, len(arguments_of(body, after)) if has_arguments else -1)
 
 
 def path_before(body: list[Token], at: int) -> str:
@@ -52,7 +52,7 @@ def path_before(body: list[Token], at: int) -> str:
     return body[place].text if place >= 0 else ""
 
 
-def behind_angles(body: list[Token], at: int) -> int:
+def after_angles(body: list[Token], at: int) -> int:
     depth = 0
     while at < len(body):
         depth += (body[at].text == "<") - (body[at].text == ">")

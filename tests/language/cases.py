@@ -275,7 +275,7 @@ def held_by(texts: Texts, cases: set[str], built: set[str]) -> set[str]:
     return texts.under(plain, OF_A_DISK) | built | (named - asked)
 
 
-def told_conditional(shown: list[conditions.Part], others: list[conditions.Part]) -> tuple[list[str], set[str]]:
+def wrong_conditions(shown: list[conditions.Part], others: list[conditions.Part]) -> tuple[list[str], set[str]]:
     """Returns what is wrong about cases under hypotheses that no case builds, and all these cases."""
     listed = {case: pattern for pattern, cases in CONDITIONAL.values() for case in cases.split()}
     shapes = conditions.by_shape(shown)
@@ -287,7 +287,7 @@ def told_conditional(shown: list[conditions.Part], others: list[conditions.Part]
     return wrong, cases
 
 
-def told_data(texts: Texts) -> list[str]:
+def wrong_data(texts: Texts) -> list[str]:
     """Returns what is wrong about types of the code, each of which is taken for data."""
     return [f"no value can be had of {one}, so it is no data" for one in plain_data.without_values(texts.code)]
 
@@ -308,7 +308,7 @@ def empty_parts(text: str) -> list[str]:
     return found
 
 
-def told_empty(texts: Texts, keys: set[str]) -> list[str]:
+def wrong_statements(texts: Texts, keys: set[str]) -> list[str]:
     wrong = []
     for key in sorted(keys):
         one = texts.definitions[key]
@@ -335,7 +335,7 @@ class Found:
         self.wrong += [f"no worked case builds the premise {key}" for key in sorted(unbuilt - BUILT_BY_A_CLAUSE.keys())]
         built_otherwise = BUILT_BY_A_CLAUSE.keys() - unbuilt
         self.wrong += [f"{key} is built, or no premise, and needs no reason" for key in sorted(built_otherwise)]
-        told, self.conditional = told_conditional(shown, others)
-        self.wrong += told + told_data(texts) + told_empty(texts, self.promise | self.cases)
+        wrong, self.conditional = wrong_conditions(shown, others)
+        self.wrong += wrong + wrong_data(texts) + wrong_statements(texts, self.promise | self.cases)
         if len(EXCEPTED) >= 20:
             self.wrong.append(f"{len(EXCEPTED)} exceptions are too many")

@@ -25,7 +25,7 @@ class PlainData:
 
     def __init__(self, definitions: dict[str, specs.Definition], imports: Imports) -> None:
         self.definitions, self.imports = definitions, imports
-        self.told: dict[str, bool] = {}
+        self.known: dict[str, bool] = {}
 
     def holds(self, kind: str, places: frozenset[str], given: frozenset[str] = frozenset()) -> bool:
         """Returns whether a type is plain data, as these files write it; `given` are its type parameters."""
@@ -40,10 +40,10 @@ class PlainData:
     def of_key(self, key: str) -> bool:
         """Returns whether a definition is plain data. A type that rests on itself isn't known to have a value while that is
         being decided."""
-        if key not in self.told:
-            self.told[key] = False
-            self.told[key] = key in OF_THE_KIT or ".specs.declared." in key or self.of_definition(key)
-        return self.told[key]
+        if key not in self.known:
+            self.known[key] = False
+            self.known[key] = key in OF_THE_KIT or ".specs.declared." in key or self.of_definition(key)
+        return self.known[key]
 
     def of_definition(self, key: str) -> bool:
         one = self.definitions.get(key)

@@ -17,7 +17,7 @@ def example(name: str) -> str:
     return (EXAMPLES / name).read_text(encoding="ascii")
 
 
-def told(folder: Folder, *words: str, given: str | bytes = b"") -> tuple[int, str]:
+def prints(folder: Folder, *words: str, given: str | bytes = b"") -> tuple[int, str]:
     ran = folder.life(*words, given=given)
     return ran.status, ran.out
 

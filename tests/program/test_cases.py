@@ -17,7 +17,7 @@ from pathlib import Path
 
 import pytest
 
-from tests.program.office import told
+from tests.program.office import prints
 from tests.support.folders import Folder
 from tests.support.program import ROOT
 
@@ -30,7 +30,7 @@ WITHOUT_A_JOURNAL = (2, 3, 4, 6)
 
 @pytest.mark.parametrize("status, line, words", [[*case, ""][:3] for case in WORDS], ids=[" ".join(case[1:]) for case in WORDS])
 def test_arguments(status: str, line: str, words: str, folder: Folder) -> None:
-    assert told(folder, *shlex.split(words), given="1,value,2021-01-01,now,1\n") == (int(status), line + "\n")
+    assert prints(folder, *shlex.split(words), given="1,value,2021-01-01,now,1\n") == (int(status), line + "\n")
     assert not folder.journal.exists()
 
 

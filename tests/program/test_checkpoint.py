@@ -13,7 +13,7 @@ import pytest
 
 from life_tools.journal.checkpoints import bytes_of_checkpoint, checkpoint_of
 from life_tools.journal.file import read_journal
-from tests.program.office import EMPTY, FIRST_BYTES, FOREIGN, NONE_WATCHED, POLICY, RECORD, told
+from tests.program.office import EMPTY, FIRST_BYTES, FOREIGN, NONE_WATCHED, POLICY, RECORD, prints
 from tests.support.folders import Folder
 from tests.support.made_books import lay_drawn_book
 
@@ -33,7 +33,7 @@ def kept(folder: Folder) -> Path:
 @pytest.fixture
 def claimed(table_q: Folder) -> Folder:
     table_q.post(CLAIMED)
-    assert told(table_q, "checkpoint") == (0, "checkpoint,4\n")
+    assert prints(table_q, "checkpoint") == (0, "checkpoint,4\n")
     return table_q
 
 
@@ -41,13 +41,13 @@ def stated_without(folder: Folder) -> tuple[int, str]:
     alone = folder.below("alone")
     alone.write("journal.life", folder.journal.read_bytes())
     kept(alone).unlink(missing_ok=True)
-    return told(alone, "state")
+    return prints(alone, "state")
 
 
 def stated_alike(folder: Folder) -> bool:
     """Returns whether `state` prints what it prints without the checkpoint, and leaves the checkpoint as it is."""
     before = kept(folder).read_bytes()
-    stated = told(folder, "state")
+    stated = prints(folder, "state")
     return stated[0] == 0 and stated == stated_without(folder) and kept(folder).read_bytes() == before
 
 
@@ -74,18 +74,18 @@ def held(path: Path) -> Iterator[None]:
 def test_a_claim_and_a_settlement(claimed: Folder) -> None:
     assert kept(claimed).read_bytes() == BY_HAND
     is_right(claimed)
-    assert told(claimed, "run", given=SETTLED) == (0, "1,settle,7001,accepted,5\nwatcher,1,1,1\nwatcher,2,1,0\n")
+    assert prints(claimed, "run", given=SETTLED) == (0, "1,settle,7001,accepted,5\nwatcher,1,1,1\nwatcher,2,1,0\n")
     settled = ("policy,7001,settled,endowment,0,3,1000.00,400.00,2020-01-01,1,0.00\nbalance,cash,-600.00\n"
                "balance,premiums,-400.00\nbalance,incurred,1000.00\nbalance,payable,0.00\ncount,5\n")
     for gate in (1, 0):
         put(kept(claimed), 0, gate)
-        assert told(claimed, "state") == (0, settled)
+        assert prints(claimed, "state") == (0, settled)
     # if its commit byte is 0, the tool doesn't take it for a checkpoint either
     assert claimed.tools("read-checkpoint", "checkpoint.life", "journal.life").status == 2
 
 
 def test_an_empty_book(folder: Folder) -> None:
-    assert told(folder, "checkpoint") == (0, "checkpoint,0\n")
+    assert prints(folder, "checkpoint") == (0, "checkpoint,0\n")
     assert folder.journal.read_bytes() == EMPTY and kept(folder).stat().st_size == 64
     is_right(folder)
 
@@ -115,7 +115,7 @@ def test_no_other_mode_touches_one(words: str, table_q: Folder) -> None:
 @pytest.mark.parametrize("words", [["checkpoint", "1"], ["checkpoint", "--basis", "basis.csv"], ["checkpoint", "--workers", "2"],
                                    ["checkpoint", "state"], ["checkpoints"], ["checkpoint", ""]], ids=" ".join)
 def test_arguments_that_are_no_checkpoint(words: list[str], folder: Folder) -> None:
-    assert told(folder, *words) == (2, "usage\n")
+    assert prints(folder, *words) == (2, "usage\n")
     assert not folder.journal.exists() and not kept(folder).exists()
 
 
@@ -146,11 +146,11 @@ def test_a_number_that_stands_twice_makes_it_none(claimed: Folder) -> None:
 
 
 @pytest.mark.parametrize("content", [BY_HAND + b"more\n", EMPTY, b"\1LIFEJRNL" + bytes(200), Path("/bin/sh").read_bytes()],
-                         ids=["bytes behind it", "an empty journal", "another journal", "a program"])
+                         ids=["bytes after it", "an empty journal", "another journal", "a program"])
 def test_a_foreign_file_is_none_and_is_written_over(content: bytes, claimed: Folder) -> None:
     kept(claimed).write_bytes(content)
     assert stated_alike(claimed)
-    assert told(claimed, "checkpoint") == (0, "checkpoint,4\n")
+    assert prints(claimed, "checkpoint") == (0, "checkpoint,4\n")
     assert kept(claimed).read_bytes().startswith(BY_HAND)
 
 
@@ -188,15 +188,15 @@ def test_bad_records(claimed: Folder) -> None:
     put(claimed.journal, FIRST_BYTES + 4 * RECORD, 9)
     before = claimed.journal.read_bytes()
     for word in ("state", "checkpoint"):
-        assert told(claimed, word) == (5, "badjournal,badrecord,4\n")
+        assert prints(claimed, word) == (5, "badjournal,badrecord,4\n")
         assert claimed.journal.read_bytes() == before
     claimed.journal.write_bytes(longer)
     put(claimed.journal, FIRST_BYTES, 9)
     assert claimed.life("state").status == 0
-    assert told(claimed, "run") == (5, "badjournal,badrecord,0\n")
+    assert prints(claimed, "run") == (5, "badjournal,badrecord,0\n")
     claimed.journal.write_bytes(FOREIGN)
     for word in ("state", "checkpoint"):
-        assert told(claimed, word) == (5, "badjournal,notajournal\n")
+        assert prints(claimed, word) == (5, "badjournal,notajournal\n")
     assert kept(claimed).read_bytes() == BY_HAND
 
 
@@ -230,8 +230,8 @@ def test_a_second_file_that_fails(second: str, claimed: Folder) -> None:
 
 def fails_by_the_second(folder: Folder) -> None:
     for word in ("state", "checkpoint"):
-        assert told(folder, word) == (8, "diskfault\n")
-    assert told(folder, "run") == (0, NONE_WATCHED)
+        assert prints(folder, word) == (8, "diskfault\n")
+    assert prints(folder, "run") == (0, NONE_WATCHED)
     assert folder.life("state", "7001").status == 0
 
 
@@ -255,7 +255,7 @@ def test_a_journal_that_another_run_has(claimed: Folder) -> None:
     kept(claimed).unlink()
     with held(claimed.journal):
         for word in ("state", "checkpoint"):
-            assert told(claimed, word) == (8, "diskfault\n")
+            assert prints(claimed, word) == (8, "diskfault\n")
             assert not kept(claimed).exists()
 
 

@@ -33,7 +33,7 @@ def recorded(folder: Folder, *words: str, given: bytes = b"") -> tuple[list[Call
 @pytest.mark.needs("strace")
 @pytest.mark.parametrize("runs", [["run"], ["run", "run"], ["run", "state"], ["run", "value 2021-01-01"]],
                          ids=["created", "again", "state", "value"])
-def test_the_devices_give_and_take_what_the_program_is_told_and_prints(runs: list[str], examples_basis: Folder) -> None:
+def test_the_devices_give_and_take_what_the_program_reads_and_prints(runs: list[str], examples_basis: Folder) -> None:
     for words in runs:
         script = SCRIPT if words == "run" else None
         calls, before, after, printed = recorded(examples_basis, *words.split(), given=script or b"")

@@ -7,7 +7,7 @@ from pathlib import Path
 import pytest
 
 from tests.program.hostile.trial import Trial, judge_journal, judge_script
-from tests.program.office import EMPTY, FIRST_BYTES, NONE_WATCHED, POLICY, RECORD, checks, told
+from tests.program.office import EMPTY, FIRST_BYTES, NONE_WATCHED, POLICY, RECORD, checks, prints
 from tests.support.big_journals import write as write_big
 from tests.support.folders import Folder
 from tests.support.made_books import select_table
@@ -42,7 +42,7 @@ def test_journals_of_few_bytes(trial: Trial) -> None:
 
 @pytest.fixture
 def one_issue(folder: Folder) -> Folder:
-    assert told(folder, "run", given=POLICY) == (0, ACCEPTED)
+    assert prints(folder, "run", given=POLICY) == (0, ACCEPTED)
     assert folder.journal.stat().st_size == FIRST_BYTES + RECORD
     return folder
 
@@ -53,8 +53,8 @@ def test_a_commit_byte_of_2(one_issue: Folder) -> None:
     journal[17] = 2
     one_issue.journal.write_bytes(bytes(journal))
     empty = "".join(f"balance,{name},0.00\n" for name in ("cash", "premiums", "incurred", "payable")) + "count,0\n"
-    assert told(one_issue, "state") == (0, empty)
-    assert told(one_issue, "run", given=POLICY) == (0, ACCEPTED)
+    assert prints(one_issue, "state") == (0, empty)
+    assert prints(one_issue, "run", given=POLICY) == (0, ACCEPTED)
 
 
 @pytest.mark.parametrize("change, record", [
@@ -67,7 +67,7 @@ def test_a_bad_record(change: object, record: int, one_issue: Folder) -> None:
     assert callable(change)
     changed = change(one_issue.journal.read_bytes())
     one_issue.journal.write_bytes(changed)
-    assert told(one_issue, "run") == (5, f"badjournal,badrecord,{record}\n")
+    assert prints(one_issue, "run") == (5, f"badjournal,badrecord,{record}\n")
     assert one_issue.journal.read_bytes() == changed
 
 
@@ -78,13 +78,13 @@ SIXTEEN = "".join(f"1,value,2021-01-01,now,{workers}\n" for workers in range(1, 
     (b"\n" * 16777217, "badscript,toolong\n"), ((SIXTEEN + "8,value,2021-01-01,0,1\n").encode(), "badscript,17,2\n"),
     ((POLICY.strip() + ",\n").encode(), "badscript,1,10\n")], ids=["16 MiB and a byte", "seventeen valuations", "a tenth field"])
 def test_scripts_past_a_limit(script: bytes, wanted: str, table_q: Folder) -> None:
-    assert told(table_q, "run", given=script) == (3, wanted)
+    assert prints(table_q, "run", given=script) == (3, wanted)
     assert not table_q.journal.exists()
 
 
 def test_scripts_at_a_limit(table_q: Folder) -> None:
-    assert told(table_q, "run", given=b"\n" * 16777216) == (0, NONE_WATCHED)
-    assert told(table_q, "run", given=SIXTEEN) == (0, "1,value,2021-01-01,0,0\ntotal,0.00,0.00,0\n" * 16 + NONE_WATCHED)
+    assert prints(table_q, "run", given=b"\n" * 16777216) == (0, NONE_WATCHED)
+    assert prints(table_q, "run", given=SIXTEEN) == (0, "1,value,2021-01-01,0,0\ntotal,0.00,0.00,0\n" * 16 + NONE_WATCHED)
 
 
 def nested(depth: int) -> str:
@@ -98,10 +98,10 @@ def test_elements_one_in_the_other(table_q: Folder) -> None:
     table_q.post(POLICY)
     table_q.write("q.xml", nested(65))
     # 28 bytes of the path, 14 of the row, and 60 elements of three bytes before the one that is nested too deep
-    assert told(table_q, "value", "2021-01-01") == (4, "badbasis,q.xml,222,notdocument\n")
+    assert prints(table_q, "value", "2021-01-01") == (4, "badbasis,q.xml,222,notdocument\n")
     table_q.write("q.xml", nested(64))
     wanted = "0,value,2021-01-01,1,1\nrow,7001,inforce,0,pasttable\ntotal,0.00,0.00,1\n"
-    assert told(table_q, "value", "2021-01-01") == (0, wanted)
+    assert prints(table_q, "value", "2021-01-01") == (0, wanted)
 
 
 def test_all_issue_ages(table_q: Folder) -> None:
@@ -110,19 +110,19 @@ def test_all_issue_ages(table_q: Folder) -> None:
     table_q.post(POLICY)
     text = select_table(0, 130, 131, 0, 130)
     table_q.write("q.xml", text)
-    widest = told(table_q, "value", "2021-01-01")
+    widest = prints(table_q, "value", "2021-01-01")
     table_q.write("widest", widest[1])
     checks(table_q, "check-values", "journal.life", "basis.csv", "widest")
     assert widest[0] == 0 and re.search(r"^row,7001,inforce,1,[0-9]", widest[1], re.M)
     blank = '<Y t="2"/>'
     assert text.count(blank) == 1
     table_q.write("q.xml", text.replace(blank, '<Y t="2">1</Y>'))
-    assert told(table_q, "value", "2021-01-01") == (4, f"badbasis,q.xml,{text.index(blank)},badduration\n")
+    assert prints(table_q, "value", "2021-01-01") == (4, f"badbasis,q.xml,{text.index(blank)},badduration\n")
     text += "\n" * (4194304 - len(text))
     table_q.write("q.xml", text)
-    assert told(table_q, "value", "2021-01-01") == widest
+    assert prints(table_q, "value", "2021-01-01") == widest
     table_q.write("q.xml", text + "\n")
-    assert told(table_q, "value", "2021-01-01") == (4, "badbasis,q.xml,1,toolong\n")
+    assert prints(table_q, "value", "2021-01-01") == (4, "badbasis,q.xml,1,toolong\n")
 
 
 @pytest.mark.needs_proof
@@ -133,7 +133,7 @@ def test_a_load_of_100_000_policies(program: Program, quick: Path) -> None:
     folder = Folder(quick, program)
     folder.take("basis.csv", "q.xml", "g.xml")
     wanted = "load,200000,0,100000,24983240405.50,24983241045.16,0\n"
-    assert told(folder, "load", "1", "100000", "8", "8") == (0, wanted)
+    assert prints(folder, "load", "1", "100000", "8", "8") == (0, wanted)
     assert folder.journal.stat().st_size == FIRST_BYTES + 200_000 * RECORD
 
 
@@ -142,12 +142,12 @@ def test_a_load_of_100_000_policies(program: Program, quick: Path) -> None:
 def test_the_longest_valuation(examples_basis: Folder) -> None:
     """As many policies as possible, of the greatest amount; what one of them is worth is computed without the program."""
     write_big("greatest", 1, str(examples_basis.journal))
-    block = told(examples_basis, "value", "2022-12-31")[1]
+    block = prints(examples_basis, "value", "2022-12-31")[1]
     examples_basis.write("block", block)
     checks(examples_basis, "check-values", "journal.life", "basis.csv", "block")
     worth = next(line.removeprefix("row,1,") for line in block.splitlines() if line.startswith("row,"))
     write_big("greatest", 4_000_000, str(examples_basis.journal))
-    status, out = told(examples_basis, "value", "2022-12-31")
+    status, out = prints(examples_basis, "value", "2022-12-31")
     sums = ",".join(f"{int(bound.replace('.', '')) * 40_000}.00" for bound in worth.split(",")[2:])
     assert status == 0
     lines = iter(out.splitlines())
@@ -165,10 +165,10 @@ def test_a_full_journal(folder: Folder) -> None:
     issue = "1,issue,{},2020-01-01,endowment,0,3,1000.00,400.00\n"
     full = "1,issue,4000001,refused,full,4000000\n"
     wanted = "1,issue,4000000,accepted,4000000\n" + full + "watcher,1,1,1\nwatcher,2,1,0\n"
-    assert told(folder, "run", given=issue.format(4000000) + issue.format(4000001)) == (0, wanted)
-    assert told(folder, "run", given=issue.format(4000001)) == (0, full + NONE_WATCHED)
+    assert prints(folder, "run", given=issue.format(4000000) + issue.format(4000001)) == (0, wanted)
+    assert prints(folder, "run", given=issue.format(4000001)) == (0, full + NONE_WATCHED)
     assert folder.journal.stat().st_size == FIRST_BYTES + 4_000_000 * RECORD
     with open(folder.journal, "r+b") as file:
         file.seek(-1, os.SEEK_END)
         file.write(b"\1")
-    assert told(folder, "run") == (5, "badjournal,badrecord,4000000\n")
+    assert prints(folder, "run") == (5, "badjournal,badrecord,4000000\n")

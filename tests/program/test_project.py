@@ -8,7 +8,7 @@ import subprocess
 import pytest
 
 from tests.support.big_journals import write as write_big
-from tests.program.office import EMPTY, FOREIGN, POLICY, checks, example, told
+from tests.program.office import EMPTY, FOREIGN, POLICY, checks, example, prints
 from tests.support.folders import Folder
 from tests.support.made_books import grid_of_all_ages, lay_drawn_book, select_table
 
@@ -30,7 +30,7 @@ def one_policy(table_q: Folder) -> Folder:
 
 def projected(folder: Folder, words: str) -> str:
     """Returns a projection, after its years were checked without the program."""
-    status, text = told(folder, "project", *words.split())
+    status, text = prints(folder, "project", *words.split())
     assert status == 0, words
     folder.write("projected", text)
     checks(folder, "check-projection", "journal.life", "basis.csv", "projected")
@@ -46,7 +46,7 @@ def projected(folder: Folder, words: str) -> str:
 ])
 def test_a_policy_by_hand(words: str, wanted: str, one_policy: Folder) -> None:
     before = one_policy.journal.read_bytes()
-    assert told(one_policy, "project", *words.split()) == (0, wanted)
+    assert prints(one_policy, "project", *words.split()) == (0, wanted)
     assert one_policy.journal.read_bytes() == before
 
 
@@ -64,28 +64,28 @@ def test_an_output_that_is_full(one_policy: Folder) -> None:
 def test_a_journal_that_another_run_has(one_policy: Folder) -> None:
     with open(one_policy.journal, "rb") as held:
         fcntl.flock(held, fcntl.LOCK_EX)
-        assert told(one_policy, "project", "2020-12-31", "3") == (8, "diskfault\n")
+        assert prints(one_policy, "project", "2020-12-31", "3") == (8, "diskfault\n")
 
 
 def test_a_paid_premium_and_then_a_lapse(one_policy: Folder) -> None:
     one_policy.post("1,premium,7001,2020-01-01,400.00\n")
     wanted = years("2020-12-31,2,1", "0.00,0.00,100.00,100.00,0.00,0.00")
-    assert told(one_policy, "project", "2020-12-31", "1") == (0, wanted)
+    assert prints(one_policy, "project", "2020-12-31", "1") == (0, wanted)
     one_policy.post("1,lapse,7001,2021-02-02\n")
-    assert told(one_policy, "project", "2021-01-01", "1") == (0, years("2021-01-01,3,1", NO_CASH))
+    assert prints(one_policy, "project", "2021-01-01", "1") == (0, years("2021-01-01,3,1", NO_CASH))
 
 
 def test_words_in_place_of_a_value(one_policy: Folder) -> None:
     one_policy.journal.unlink()
     one_policy.post("1,issue,9,2020-01-01,whole,4,0,1000.00,400.00\n")
     wanted = (0, years("2021-01-01,1,1", NO_CASH, unvalued=1))
-    assert told(one_policy, "project", "2021-01-01", "1") == wanted
+    assert prints(one_policy, "project", "2021-01-01", "1") == wanted
     one_policy.write("basis.csv", "")
-    assert told(one_policy, "project", "2021-01-01", "1") == wanted
+    assert prints(one_policy, "project", "2021-01-01", "1") == wanted
 
 
 def test_an_empty_book(table_q: Folder) -> None:
-    assert told(table_q, "project", "2021-01-01", "1") == (0, years("2021-01-01,0,0", NO_CASH))
+    assert prints(table_q, "project", "2021-01-01", "1") == (0, years("2021-01-01,0,0", NO_CASH))
     assert table_q.journal.read_bytes() == EMPTY
 
 
@@ -97,7 +97,7 @@ def test_select_tables_by_hand(layout: str, folder: Folder) -> None:
     folder.post(POLICY)
     wanted = years("2020-12-31,1,1", "400.00,400.00,50.00,50.00,0.00,0.00", "380.00,380.00,95.00,95.00,0.00,0.00",
                    "342.00,342.00,213.75,213.75,641.25,641.25")
-    assert told(folder, "project", "2020-12-31", "3") == (0, wanted)
+    assert prints(folder, "project", "2020-12-31", "3") == (0, wanted)
 
 
 @pytest.mark.parametrize("words", [
@@ -109,7 +109,7 @@ def test_select_tables_by_hand(layout: str, folder: Folder) -> None:
     "Project 2021-01-01 1",
     "project 2021-01-01 18446744073709551617", "--workers 2 project 2021-01-01 1"])
 def test_arguments_that_are_no_projections(words: str, table_q: Folder) -> None:
-    assert told(table_q, *words.split()) == (2, "usage\n")
+    assert prints(table_q, *words.split()) == (2, "usage\n")
     assert not table_q.journal.exists()
 
 
@@ -126,17 +126,17 @@ def test_bad_bases(table: str | None, words: str, wanted: tuple[int, str], folde
         (folder.path / "q.xml").mkdir()
     elif table:
         folder.write("q.xml", table)
-    assert told(folder, "project", "2021-01-01", "1", *words.split()) == wanted
+    assert prints(folder, "project", "2021-01-01", "1", *words.split()) == wanted
     assert not folder.journal.exists()
 
 
 def test_a_foreign_file_and_a_folder(table_q: Folder) -> None:
     table_q.write("journal.life", FOREIGN)
-    assert told(table_q, "project", "2021-01-01", "1") == (5, "badjournal,notajournal\n")
+    assert prints(table_q, "project", "2021-01-01", "1") == (5, "badjournal,notajournal\n")
     assert table_q.journal.read_bytes() == FOREIGN
     table_q.journal.unlink()
     table_q.journal.mkdir()
-    assert told(table_q, "project", "2021-01-01", "1") == (8, "diskfault\n")
+    assert prints(table_q, "project", "2021-01-01", "1") == (8, "diskfault\n")
 
 
 @pytest.mark.parametrize("seed", range(1, 7))
@@ -147,7 +147,7 @@ def test_every_year_of_a_drawn_book(seed: int, folder: Folder) -> None:
     for words in ("2003-06-01 1", "2007-02-28 6", "2014-12-31 131", "2019-06-30 40", "2120-01-01 2"):
         text = projected(folder, words)
         for workers in ("2", "64"):
-            assert told(folder, "project", *words.split(), "--workers", workers) == (0, text)
+            assert prints(folder, "project", *words.split(), "--workers", workers) == (0, text)
         found += text
     assert folder.journal.read_bytes() == before
     assert any(line.startswith("unvalued,") and line != "unvalued,0" for line in found.splitlines())
@@ -185,7 +185,7 @@ def test_every_year_of_every_age(table: str, folder: Folder) -> None:
 
 
 def test_every_year_of_a_generated_book(examples_basis: Folder) -> None:
-    examples_basis.post(told(examples_basis, "generate", "7", "2000", "1")[1])
+    examples_basis.post(prints(examples_basis, "generate", "7", "2000", "1")[1])
     for words in ("2000-06-01 40", "2009-12-31 101", "2190-01-01 3"):
         projected(examples_basis, words)
 
@@ -195,7 +195,7 @@ def test_each_number_of_workers_writes_the_same(folder: Folder) -> None:
     lay_drawn_book(folder, 7, 40001, 0)
     alone = projected(folder, "2014-12-31 40")
     for workers in ("1", "2", "3", "8", "64"):
-        assert told(folder, "project", "2014-12-31", "40", "--workers", workers) == (0, alone)
+        assert prints(folder, "project", "2014-12-31", "40", "--workers", workers) == (0, alone)
 
 
 def greatest(folder: Folder, count: int) -> None:
@@ -207,7 +207,7 @@ def greatest(folder: Folder, count: int) -> None:
         return ",".join(f"{each * count * share // 1000}.00" for share in shares for _ in range(2))
     wanted = years(f"2020-01-01,{count},{count}", cash(1000, 100, 0), cash(900, 180, 0), cash(720, 180, 540), NO_CASH)
     for workers in ("1", "4"):
-        assert told(folder, "project", "2020-01-01", "4", "--workers", workers) == (0, wanted)
+        assert prints(folder, "project", "2020-01-01", "4", "--workers", workers) == (0, wanted)
 
 
 def test_the_greatest_policies(table_q: Folder) -> None:

@@ -6,7 +6,7 @@ import time
 
 import pytest
 
-from tests.program.office import EMPTY, FIRST_BYTES, FOREIGN, NONE_WATCHED, POLICY, RECORD, VALUED, checks, example, told
+from tests.program.office import EMPTY, FIRST_BYTES, FOREIGN, NONE_WATCHED, POLICY, RECORD, VALUED, checks, example, prints
 from tests.support.folders import Folder
 
 # the first record, of policy 7001, written out by hand from docs/reference/journal.md
@@ -16,7 +16,7 @@ VALUE = "1,value,2021-01-01,now,1\n"
 
 @pytest.fixture
 def one_day(folder: Folder) -> Folder:
-    assert told(folder, "run", given=example("first-issues.csv")) == (0, example("first-issues.transcript"))
+    assert prints(folder, "run", given=example("first-issues.csv")) == (0, example("first-issues.transcript"))
     return folder
 
 
@@ -24,7 +24,7 @@ def test_a_script_and_the_next_days(one_day: Folder) -> None:
     journal = one_day.journal.read_bytes()
     assert journal[:FIRST_BYTES - 1] == EMPTY[:17] and journal[17:17 + RECORD] == FIRST_RECORD
     assert len(journal) == FIRST_BYTES + 4 * RECORD
-    assert told(one_day, "run", given=example("second-day.csv")) == (0, example("second-day.transcript"))
+    assert prints(one_day, "run", given=example("second-day.csv")) == (0, example("second-day.transcript"))
     assert one_day.journal.stat().st_size == FIRST_BYTES + 5 * RECORD
 
 
@@ -32,7 +32,7 @@ def test_a_script_and_the_next_days(one_day: Folder) -> None:
 def test_an_empty_script(before: bytes | None, folder: Folder) -> None:
     if before is not None:
         folder.write("journal.life", before)
-    assert told(folder, "run") == (0, NONE_WATCHED)
+    assert prints(folder, "run") == (0, NONE_WATCHED)
     assert folder.journal.read_bytes() == EMPTY
 
 
@@ -40,7 +40,7 @@ def test_an_empty_script(before: bytes | None, folder: Folder) -> None:
                          ids=["run", "value"])
 def test_a_foreign_file(words: list[str], given: str, table_q: Folder) -> None:
     table_q.write("journal.life", FOREIGN)
-    assert told(table_q, *words, given=example(given) if given else "") == (5, "badjournal,notajournal\n")
+    assert prints(table_q, *words, given=example(given) if given else "") == (5, "badjournal,notajournal\n")
     assert table_q.journal.read_bytes() == FOREIGN
 
 
@@ -48,14 +48,14 @@ def test_a_bad_record(one_day: Folder) -> None:
     bad = bytearray(one_day.journal.read_bytes())
     bad[FIRST_BYTES] = 9
     one_day.write("journal.life", bytes(bad))
-    assert told(one_day, "run", given=example("second-day.csv")) == (5, "badjournal,badrecord,0\n")
+    assert prints(one_day, "run", given=example("second-day.csv")) == (5, "badjournal,badrecord,0\n")
     assert one_day.journal.read_bytes() == bytes(bad)
 
 
 @pytest.mark.parametrize("words", [["run"], ["value", "2021-01-01"]], ids=["run", "value"])
 def test_journal_life_is_a_folder(words: list[str], table_q: Folder) -> None:
     table_q.journal.mkdir()
-    assert told(table_q, *words, given=example("first-issues.csv")) == (8, "diskfault\n")
+    assert prints(table_q, *words, given=example("first-issues.csv")) == (8, "diskfault\n")
 
 
 @pytest.mark.parametrize("words, given, wanted", [
@@ -65,7 +65,7 @@ def test_journal_life_is_a_folder(words: list[str], table_q: Folder) -> None:
     (["run"], "".join(f"{n % 8 + 1},value,2021-01-01,now,1\n" for n in range(1, 18)), (3, "badscript,17,2\n")),
 ], ids=["bad day", "wrong arguments", "no basis", "lane 0", "lane 9", "a valuation too many"])
 def test_what_is_refused_before_the_journal(words: list[str], given: str, wanted: tuple[int, str], folder: Folder) -> None:
-    assert told(folder, *words, given=given) == wanted
+    assert prints(folder, *words, given=given) == wanted
     assert not folder.journal.exists()
 
 
@@ -106,7 +106,7 @@ def test_a_disk_that_is_full(folder: Folder) -> None:
                          preexec_fn=lambda: resource.setrlimit(resource.RLIMIT_FSIZE, (512, 512)))
     assert (ran.returncode, ran.stdout.decode()) == (8, wanted + "watcher,1,7,7\nwatcher,2,7,0\n")
     again = "".join(f"1,issue,{n},refused,taken\n" for n in range(1, 8)) + "1,issue,8,accepted,8\n1,issue,9,accepted,9\n"
-    assert told(folder, "run", given=script) == (0, again + "watcher,1,2,2\nwatcher,2,2,0\n")
+    assert prints(folder, "run", given=script) == (0, again + "watcher,1,2,2\nwatcher,2,2,0\n")
 
 
 def test_two_clerks(examples_basis: Folder) -> None:
@@ -121,7 +121,7 @@ def test_valuations_and_a_trim_in_a_script(table_q: Folder) -> None:
     wanted = ("1,issue,7001,accepted,1\n" + VALUED.replace("0,", "1,", 1)
               + "1,value,2021-01-01,refused,ahead,1\n1,trim,1\n1,value,2021-01-01,refused,trimmed,1\n"
               + "watcher,1,1,1\nwatcher,2,1,0\n")
-    assert told(table_q, "run", given=script) == (0, wanted)
+    assert prints(table_q, "run", given=script) == (0, wanted)
 
 
 def lines_of(text: str, *heads: str) -> list[str]:
@@ -130,8 +130,8 @@ def lines_of(text: str, *heads: str) -> list[str]:
 
 @pytest.mark.parametrize("name", ["whole-life", "small-office"])
 def test_the_state_is_that_of_the_journal(name: str, folder: Folder) -> None:
-    assert told(folder, "run", given=example(f"{name}.csv")) == (0, example(f"{name}.transcript"))
-    assert told(folder, "state") == (0, example(f"{name}.state"))
+    assert prints(folder, "run", given=example(f"{name}.csv")) == (0, example(f"{name}.transcript"))
+    assert prints(folder, "state") == (0, example(f"{name}.state"))
     # the records are read and the balances added up without the program
     heads = ("balance,", "count,")
     assert lines_of(folder.printed("read", "journal.life"), *heads) == lines_of(example(f"{name}.state"), *heads)
@@ -139,5 +139,5 @@ def test_the_state_is_that_of_the_journal(name: str, folder: Folder) -> None:
 
 def test_the_state_of_one_policy(folder: Folder) -> None:
     folder.post(example("whole-life.csv"))
-    assert told(folder, "state", "7101") == (0, example("whole-life-7101.state"))
-    assert told(folder, "state", "7103") == (0, "unknown,7103\n")
+    assert prints(folder, "state", "7101") == (0, example("whole-life-7101.state"))
+    assert prints(folder, "state", "7103") == (0, "unknown,7103\n")

@@ -8,7 +8,7 @@ from pathlib import Path
 
 import pytest
 
-from tests.program.office import told
+from tests.program.office import prints
 from tests.program.test_run import lines_of
 from tests.support.folders import Folder
 from tests.support.program import ROOT
@@ -31,13 +31,13 @@ def text_of(name: str) -> str:
 
 
 def test_a_script_upgrades_it(folder: Folder) -> None:
-    assert told(folder, "run", given=text_of("script.csv")) == (0, text_of("transcript"))
+    assert prints(folder, "run", given=text_of("script.csv")) == (0, text_of("transcript"))
     assert folder.journal.read_bytes() == UPGRADED
 
 
 def test_it_is_opened_again(folder: Folder) -> None:
     folder.write("journal.life", UPGRADED)
-    assert told(folder, "state") == (0, text_of("state"))
+    assert prints(folder, "state") == (0, text_of("state"))
     assert folder.journal.read_bytes() == UPGRADED
     heads = ("balance,", "count,")
     assert lines_of(folder.printed("read", "journal.life"), *heads) == lines_of(text_of("state"), *heads)
@@ -49,7 +49,7 @@ def test_a_journal_of_some_of_its_records_is_refused(records: tuple[int, ...], a
     made = UPGRADED[:17] + b"".join(UPGRADED[17 + 65 * number:][:65] for number in records) + b"\0"
     folder.write("journal.life", made)
     answer = f"badjournal,badrecord,{at}\n"
-    assert told(folder, "run") == (5, answer)
+    assert prints(folder, "run") == (5, answer)
     assert folder.journal.read_bytes() == made
     ended = folder.tools("read", "journal.life")
     assert (ended.status, ended.out) == (2, answer)

@@ -6,7 +6,7 @@ from collections.abc import Iterator
 import pytest
 
 from life_tools.tables.basis import read_basis
-from tests.program.office import EMPTY, POLICY, VALUED, checks, example, told
+from tests.program.office import EMPTY, POLICY, VALUED, checks, example, prints
 from tests.support.folders import Folder
 from tests.support.made_books import premiums_around, script_of_ages, select_table
 
@@ -24,7 +24,7 @@ def one_policy(table_q: Folder) -> Iterator[Folder]:
 
 def valued(folder: Folder, words: str) -> str:
     """Returns the block of a valuation, after `check-values` has computed it again."""
-    status, block = told(folder, "value", *words.split())
+    status, block = prints(folder, "value", *words.split())
     assert status == 0, words
     folder.write("block", block)
     checks(folder, "check-values", "journal.life", "basis.csv", "block")
@@ -33,12 +33,12 @@ def valued(folder: Folder, words: str) -> str:
 
 @pytest.mark.parametrize("words", ["2021-01-01", "--at=1 2021-01-01 --workers 64 --basis basis.csv"])
 def test_a_policy_by_hand(words: str, one_policy: Folder) -> None:
-    assert told(one_policy, "value", *words.split()) == (0, VALUED)
+    assert prints(one_policy, "value", *words.split()) == (0, VALUED)
 
 
 def test_positions(one_policy: Folder) -> None:
-    assert told(one_policy, "value", "2021-01-01", "--at", "0") == (0, "0,value,2021-01-01,0,0\ntotal,0.00,0.00,0\n")
-    assert told(one_policy, "value", "2021-01-01", "--at", "2") == (10, "refused,ahead,1\n")
+    assert prints(one_policy, "value", "2021-01-01", "--at", "0") == (0, "0,value,2021-01-01,0,0\ntotal,0.00,0.00,0\n")
+    assert prints(one_policy, "value", "2021-01-01", "--at", "2") == (10, "refused,ahead,1\n")
 
 
 def test_an_output_that_is_full(one_policy: Folder) -> None:
@@ -61,14 +61,14 @@ BY_HAND = [
 @pytest.mark.parametrize("day, measure, its_row, total", BY_HAND)
 def test_measures_by_hand(day: str, measure: str, its_row: str, total: str, one_policy: Folder) -> None:
     wanted = f"0,value,{day},1,1,{measure[2:]}\nrow,7001,inforce,{its_row}\ntotal,{total}\n"
-    assert told(one_policy, "value", day, measure) == (0, wanted)
+    assert prints(one_policy, "value", day, measure) == (0, wanted)
 
 
 def test_a_premium_that_is_enough(table_q: Folder) -> None:
     table_q.post(POLICY.replace("400.00", "500.00"))
     wanted = ("0,value,2021-01-01,1,1,deficiency\nrow,7001,inforce,1,127.22,127.23,127.22,127.23,enough\n"
               "total,127.22,127.23,127.22,127.23,0\n")
-    assert told(table_q, "value", "2021-01-01", "--deficiency") == (0, wanted)
+    assert prints(table_q, "value", "2021-01-01", "--deficiency") == (0, wanted)
 
 
 def test_a_premium_that_is_close(table_q: Folder) -> None:
@@ -96,9 +96,9 @@ def test_select_tables_by_hand(layout: str, folder: Folder) -> None:
     folder.post(POLICY)
     for day, its_row in SELECT:
         wanted = f"0,value,{day},1,1\nrow,7001,inforce,{its_row}\ntotal,{its_row.partition(',')[2]},0\n"
-        assert told(folder, "value", day) == (0, wanted)
+        assert prints(folder, "value", day) == (0, wanted)
     wanted = "0,value,2021-01-01,1,1,mean\nrow,7001,inforce,1,564.60,564.61\ntotal,564.60,564.61,0\n"
-    assert told(folder, "value", "2021-01-01", "--mean") == (0, wanted)
+    assert prints(folder, "value", "2021-01-01", "--mean") == (0, wanted)
 
 
 @pytest.mark.parametrize("made, words", [
@@ -130,7 +130,7 @@ def test_short_premiums_of_the_example(examples_basis: Folder) -> None:
 def test_a_measure_may_stand_anywhere(words: str, measure: str, its_row: str, one_policy: Folder) -> None:
     total = ",".join(part for part in its_row.split(",")[1:] if part != "short")
     wanted = f"0,value,2021-01-01,1,1,{measure}\nrow,7001,inforce,{its_row}\ntotal,{total},0\n"
-    assert told(one_policy, "value", *words.replace("--mean", f"--{measure}").split()) == (0, wanted)
+    assert prints(one_policy, "value", *words.replace("--mean", f"--{measure}").split()) == (0, wanted)
 
 
 FORTY = [f"1,{rest.format(number)}\n" for rest in (
@@ -146,13 +146,13 @@ def test_each_position_is_valued_as_a_run_of_so_many(table_q: Folder) -> None:
         alone.write("basis.csv", table_q.read("basis.csv"))
         alone.take("q.xml")
         alone.post("".join(FORTY[:count]))
-        wanted = told(alone, "value", "2021-06-01")
+        wanted = prints(alone, "value", "2021-06-01")
         assert wanted[0] == 0 and wanted[1].startswith(f"0,value,2021-06-01,{count},{min(count, 8)}\n")
-        assert told(table_q, "value", "2021-06-01", "--at", str(count)) == wanted
+        assert prints(table_q, "value", "2021-06-01", "--at", str(count)) == wanted
 
 
 def test_a_position_ahead_of_a_new_journal(table_q: Folder) -> None:
-    assert told(table_q, "value", "2021-01-01", "--at", "1") == (10, "refused,ahead,0\n")
+    assert prints(table_q, "value", "2021-01-01", "--at", "1") == (10, "refused,ahead,0\n")
     assert table_q.journal.read_bytes() == EMPTY
 
 
@@ -167,7 +167,7 @@ def test_a_position_ahead_of_a_new_journal(table_q: Folder) -> None:
     "--mean value 2021-01-01", "run --mean", "run --deficiency", "state --mean", "state 1 --deficiency", "generate 1 1 1 --mean",
     "load 1 1 1 1 --mean", "load 1 1 1 1 --deficiency"])
 def test_arguments_that_are_no_valuations(words: str, table_q: Folder) -> None:
-    assert told(table_q, *words.split()) == (2, "usage\n")
+    assert prints(table_q, *words.split()) == (2, "usage\n")
     assert not table_q.journal.exists()
 
 
@@ -198,20 +198,20 @@ def test_bad_bases(files: dict[str, str | None], words: str, wanted: tuple[int, 
             (folder.path / name).mkdir()
         else:
             folder.write(name, text)
-    assert told(folder, "value", "2021-01-01", *words.split()) == (wanted[0], wanted[1] + "\n")
+    assert prints(folder, "value", "2021-01-01", *words.split()) == (wanted[0], wanted[1] + "\n")
     assert not folder.journal.exists()
 
 
 def test_a_basis_of_4_mib(one_policy: Folder) -> None:
     text = one_policy.read("basis.csv")
     one_policy.write("basis.csv", text + "\n" * (4194304 - len(text)))
-    assert told(one_policy, "value", "2021-01-01") == (0, VALUED)
+    assert prints(one_policy, "value", "2021-01-01") == (0, VALUED)
 
 
 def test_an_empty_basis(one_policy: Folder) -> None:
     one_policy.write("basis.csv", "")
     wanted = "0,value,2021-01-01,1,1\nrow,7001,inforce,0,nobasis\ntotal,0.00,0.00,1\n"
-    assert told(one_policy, "value", "2021-01-01") == (0, wanted)
+    assert prints(one_policy, "value", "2021-01-01") == (0, wanted)
 
 
 @pytest.mark.parametrize("measure", MEASURES)
@@ -228,7 +228,7 @@ def test_every_row_of_the_small_office_at_positions(small_office: Folder) -> Non
 @pytest.mark.parametrize("measure", MEASURES)
 def test_every_row_of_a_generated_book(measure: str, examples_basis: Folder) -> None:
     """The premiums are a fiftieth of the amounts, and therefore short for most of the policies."""
-    examples_basis.post(told(examples_basis, "generate", "7", "300", "1")[1])
+    examples_basis.post(prints(examples_basis, "generate", "7", "300", "1")[1])
     blocks = [valued(examples_basis, f"{day} {measure}")
               for day in ("2000-06-01", "2005-12-31", "2009-12-31", "2020-12-31", "2190-01-01")]
     if measure == "--deficiency":

@@ -31,7 +31,7 @@ from pathlib import Path
 ROOT = Path(__file__).resolve().parent.parent.parent
 MORE = ROOT / "tests" / "proof" / "bodies"
 REFUSED = re.compile(r"^rt: must-fail (\w+)/([\w.-]+)\.edit: refused, as it must be(?:: (.*))?$")
-TOLD = re.compile(r"^rt: must-fail (\w+)/([\w.-]+)\.edit: (.*)$")
+SAID = re.compile(r"^rt: must-fail (\w+)/([\w.-]+)\.edit: (.*)$")
 PLACE = re.compile(r"(note: )?(?:\./)?((?:src|specs|proofs)/\S+?):\d+:\d+: (.*)")
 
 
@@ -155,15 +155,15 @@ def trial(crate: str, bodies: list[Body], room: Path) -> dict[str, str | None]:
     for body in bodies:
         shutil.copy(body.path, edits)
     ran = subprocess.run(["rt", "must-fail", crate], cwd=room, capture_output=True, text=True)
-    told = verdicts(ran.stdout + ran.stderr)
-    return {body.name: told.get(body.name) for body in bodies}
+    found = verdicts(ran.stdout + ran.stderr)
+    return {body.name: found.get(body.name) for body in bodies}
 
 
 def verdicts(log: str) -> dict[str, str | None]:
     """Returns what a log of the kit says about each body that was tried: the place of its refusal, or None."""
     found: dict[str, str | None] = {}
     for line in log.splitlines():
-        tried, refused = TOLD.match(line), REFUSED.match(line)
+        tried, refused = SAID.match(line), REFUSED.match(line)
         if tried:
             found[f"{tried[1]}/{tried[2]}"] = (refused[3] or "") if refused else None
         if tried and not refused:

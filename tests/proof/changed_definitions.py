@@ -149,9 +149,9 @@ def checked(crate_name: str, changed: Any, case: Any, folder: str) -> Any:
     here = os.path.join(TOP, "crates", crate_name)
     crate = rtlib.Crate(here, TOP, {})
     os.makedirs(f"{folder}/kept/{crate_name}", exist_ok=True)
-    told = subprocess.run(["timeout", "1800", rtlib.RATTLE, "check", *words_of(crate, changed, folder), "--only", case],
-                          cwd=f"{folder}/crates/{crate_name}", stdout=subprocess.PIPE, stderr=subprocess.STDOUT, check=False)
-    return told.stdout.decode("utf-8", "replace")
+    ran = subprocess.run(["timeout", "1800", rtlib.RATTLE, "check", *words_of(crate, changed, folder), "--only", case],
+                         cwd=f"{folder}/crates/{crate_name}", stdout=subprocess.PIPE, stderr=subprocess.STDOUT, check=False)
+    return ran.stdout.decode("utf-8", "replace")
 
 
 def verdict(said: Any, crate_name: str, case: Any) -> Any:

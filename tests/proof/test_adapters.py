@@ -16,7 +16,7 @@ from tests.support.program import ROOT, Program
 pytestmark = [pytest.mark.needs("rt", "strace"), pytest.mark.alone, pytest.mark.slow, pytest.mark.timeout(1200)]
 
 CALLS = "tests/program/test_calls.py::test_a_first_run"
-DEVICES = "tests/program/test_devices.py::test_the_devices_give_and_take_what_the_program_is_told_and_prints"
+DEVICES = "tests/program/test_devices.py::test_the_devices_give_and_take_what_the_program_reads_and_prints"
 CLOSED = "tests/program/test_devices.py::test_no_file_takes_the_place_of_a_closed_stream"
 ARCHIVE = "tests/program/test_archive.py"
 TAKEN = "tests/program/faults/test_taken_journals.py::test_a_journal_is_taken_away"

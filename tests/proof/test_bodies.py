@@ -64,9 +64,9 @@ def test_the_place_is_read_from_what_the_kit_prints(said: str, place: str) -> No
     ((), NOTE, "no `at:` line"),
     (("src/file.rt returns",), None, "isn't refused"),
 ])
-def test_a_trial_tells_another_verdict_and_another_place(places: tuple[str, ...], said: str | None, wrong: str) -> None:
-    told = judged(Body("a", Path("a/b.edit"), places, (("src/file.rt", "1", "2"),)), said)
-    assert (wrong in told) if wrong else told == ""
+def test_a_trial_reports_another_verdict_and_another_place(places: tuple[str, ...], said: str | None, wrong: str) -> None:
+    found = judged(Body("a", Path("a/b.edit"), places, (("src/file.rt", "1", "2"),)), said)
+    assert (wrong in found) if wrong else found == ""
 
 
 @pytest.mark.parametrize("text", ["old: 1\nnew: 2\n", "file: src/a.rt\nold: 1\n", "file: src/a.rt\n", "file: src/a.rt\nnew: 2\n",

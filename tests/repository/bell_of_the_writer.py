@@ -80,7 +80,7 @@ class Writer(Search):
         """The tests' stop in a lane, which stops nothing."""
 
     def answer(self, *_: Any) -> Steps:
-        """Answers a line: it has the next turn, and its moment is told."""
+        """Answers a line: it has the next turn, and its moment is posted."""
         yield Long("line")
         return Record("TranscriptLine", turn=(yield from self.moments.post()))
 
@@ -97,7 +97,7 @@ class Writer(Search):
             if self.does(writer) is None:
                 return ""
             if writer.sleeps:
-                told = [bool(state.cells[ring]) for ring, then in does.items() if then or state.cells[ring]]
-                return "a line that can be written waits" if all(told) else ""
+                pushed = [bool(state.cells[ring]) for ring, then in does.items() if then or state.cells[ring]]
+                return "a line that can be written waits" if all(pushed) else ""
             state = self.after(state, self.at_the_writer(state))
         return "the writer doesn't sleep"

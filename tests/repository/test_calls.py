@@ -59,7 +59,7 @@ def test_main_reaches_each_public_function() -> None:
     ("money_ledgers/src/ledger.rt", "impl\n    Ledger\n{\n    pub fn last_age(&self) -> u32 {\n        0\n    }\n}\n",
      "money_ledgers::Ledger::last_age"),
 ], ids=["function", "method", "a method with a common name", "an impl over several lines"])
-def test_what_nobody_calls_is_told(file: str, planted: str, full: str) -> None:
+def test_what_nobody_calls_is_reported(file: str, planted: str, full: str) -> None:
     path = CRATES / file
     changed = parsed(file.split("/")[0], path, path.read_text(encoding="utf-8") + planted)
     assert full in reached_and_not([changed])[1]

@@ -9,7 +9,7 @@ from pathlib import Path
 import pytest
 
 from tests.language import conditions, counts
-from tests.language.cases import Found, Texts, empty_parts, parts_of, told_conditional, told_data
+from tests.language.cases import Found, Texts, empty_parts, parts_of, wrong_conditions, wrong_data
 from tests.language.promise import all_public
 from tests.language.source import CRATES
 
@@ -98,9 +98,9 @@ def put(texts: Texts, path: Path, old: str, new: str) -> Texts:
     return texts.changed(path, text.replace(BEFORE, HELPERS + BEFORE) if path == CASES else text)
 
 
-def told_of(texts: Texts) -> list[str]:
+def reported_of(texts: Texts) -> list[str]:
     """Returns what is reported about conditional cases, and about code that spoils what is taken for data."""
-    return told_conditional(*conditions.met(parts_of(texts)))[0] + told_data(texts)
+    return wrong_conditions(*conditions.met(parts_of(texts)))[0] + wrong_data(texts)
 
 
 def test_each_definition_under_the_promise_is_held_and_each_premise_is_built(texts: Texts) -> None:
@@ -109,21 +109,21 @@ def test_each_definition_under_the_promise_is_held_and_each_premise_is_built(tex
 
 @pytest.mark.parametrize("path, old, new, name", [
     *((CASES, PART, f"PromisedByHand = {one} → IsPromised called", PROMISED) for one in HYPOTHESES), *WAYS])
-def test_a_case_that_says_less_is_told(texts: Texts, path: Path, old: str, new: str, name: str) -> None:
-    told = told_of(put(texts, path, old, new))
-    assert any(f"{name} is conditional" in one or f"has {name}," in one for one in told)
+def test_a_case_that_says_less_is_reported(texts: Texts, path: Path, old: str, new: str, name: str) -> None:
+    reported = reported_of(put(texts, path, old, new))
+    assert any(f"{name} is conditional" in one or f"has {name}," in one for one in reported)
 
 
-def test_a_case_of_a_type_with_parameters_is_told(texts: Texts) -> None:
+def test_a_case_of_a_type_with_parameters_is_reported(texts: Texts) -> None:
     text = texts.code[CONTRACT]
     begin = text.index("pub fn promise_by_hand()")
     end = text.index("\n{}\n", begin) + len("\n{}\n")
     within = text[:begin] + "impl<T: Nothing> Of<T> {\n" + text[begin:end] + "}\n" + text[end:]
-    assert any(f"{PROMISED} is conditional" in one for one in told_of(texts.changed(CONTRACT, within)))
+    assert any(f"{PROMISED} is conditional" in one for one in reported_of(texts.changed(CONTRACT, within)))
 
 
 @pytest.mark.parametrize("one", NO_LESS)
-def test_a_case_that_says_no_less_is_not_told(texts: Texts, one: str) -> None:
+def test_a_case_that_says_no_less_is_not_reported(texts: Texts, one: str) -> None:
     assert Found(put(texts, CASES, PART, f"PromisedByHand = {one} → IsPromised called")).wrong == []
 
 
@@ -139,7 +139,7 @@ def test_what_says_nothing_is_found(said: str, empty: list[str]) -> None:
     (CRATES / "life_app/specs/Runs.antt", "pub handed : run.next ≡ run.new", "pub handed : run.new ≡ run.new"),
     (CASES, PART, "PromisedByHand = (called ≡ called) × IsPromised called"),
 ], ids=["a definition's field", "a worked case"])
-def test_an_emptied_definition_or_case_is_told(texts: Texts, path: Path, old: str, new: str) -> None:
+def test_an_emptied_definition_or_case_is_reported(texts: Texts, path: Path, old: str, new: str) -> None:
     assert any("says nothing" in one for one in Found(put(texts, path, old, new)).wrong)
 
 

@@ -51,7 +51,7 @@ def test_each_line_of_the_theorem_stands_in_the_code(proved: str) -> None:
     assert len(lines) > 30 and [line for line in lines if line not in proved] == []
 
 
-def test_a_changed_line_of_the_theorem_is_told(proved: str) -> None:
+def test_a_changed_line_of_the_theorem_is_reported(proved: str) -> None:
     page = THEOREM.read_text(encoding="utf-8").replace("exits : status ≡ status_of ending", "exits : ending ≡ ending", 1)
     assert [line for line in quoted(page) if line not in proved] == ["exits : ending ≡ ending"]
 

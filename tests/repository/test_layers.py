@@ -68,7 +68,7 @@ def test_each_crate_stands_only_on_crates_above_its_heading() -> None:
     assert below_or_beside(layers()) == []
 
 
-def test_a_crate_on_one_beside_it_is_told() -> None:
+def test_a_crate_on_one_beside_it_is_reported() -> None:
     assert below_or_beside([("1. Low", [("one", []), ("two", ["one"])])]) == ["two stands on one, under '1. Low'"]
 
 
@@ -81,7 +81,7 @@ def test_the_libraries_that_contracts_alone_name_are_marked() -> None:
     assert marked() == {crate: names for crate in libraries() if (names := for_contracts_alone(crate))}
 
 
-def test_a_superfluous_library_is_told() -> None:
+def test_a_superfluous_library_is_reported() -> None:
     assert not is_used("money_core", "lane_runner") and is_used("lane_runner", "turn_lock")
 
 

@@ -118,7 +118,7 @@ def test_each_exception_of_a_number_is_needed() -> None:
     assert [allowed for allowed in SAME_NUMBER.values() if not any(len(names & allowed) > 1 for names in found)] == []
 
 
-def test_a_number_under_a_second_name_is_told() -> None:
+def test_a_number_under_a_second_name_is_reported() -> None:
     text = "/// As many records.\nconst MOST_POSTINGS: u32 = 4 * 1_000_000;\n"
     planted = parsed("money_core", Path(CRATES / "money_core" / "src" / "planted.rt"), text)
     assert doubled([*program(), planted]) == ["4,000,000 is MOST_COMMANDS, MOST_POSTINGS"]

@@ -33,6 +33,6 @@ def test_no_module_imports_a_package_above_its_own() -> None:
     assert found == set()
 
 
-def test_an_import_from_above_is_told() -> None:
+def test_an_import_from_above_is_reported() -> None:
     text = "def due() -> None:\n    from life_tools.cli.due import Items\n    import life_tools.common.formats\n"
     assert upward("rules/grace.py", text) == {("rules/grace.py", "cli")}

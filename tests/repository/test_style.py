@@ -69,11 +69,11 @@ def test_no_python_within_a_shell_script(script: str) -> None:
     assert [line for line in lines if WITHIN.search(line)] == []
 
 
-@pytest.mark.parametrize("line, is_told", [
+@pytest.mark.parametrize("line, is_reported", [
     ("python3 - <<'PY'", True), ("python3 -c 'print(1)'", True), ('python3 -c "import numpy"', False),
     ("python3 -B tool.py", False)])
-def test_python_within_shell_is_seen(line: str, is_told: bool) -> None:
-    assert bool(WITHIN.search(line)) == is_told
+def test_python_within_shell_is_seen(line: str, is_reported: bool) -> None:
+    assert bool(WITHIN.search(line)) == is_reported
 
 
 def test_each_exemption_from_a_checker_states_its_reason() -> None:
@@ -85,8 +85,8 @@ def test_each_exemption_from_a_checker_states_its_reason() -> None:
     assert bare == []
 
 
-@pytest.mark.parametrize("line, is_told", [
+@pytest.mark.parametrize("line, is_reported", [
     ("x = 1  # no" + "qa: E501", True), ("x = 1  # no" + "qa: E501 # a long address", False),
     ("x = 1  # type" + ": ignore[misc]", True), ("x = 1  # type" + ": ignore[misc] # no types", False)])
-def test_an_exemption_without_a_reason_is_seen(line: str, is_told: bool) -> None:
-    assert bool(EXEMPT.search(line)) == is_told
+def test_an_exemption_without_a_reason_is_seen(line: str, is_reported: bool) -> None:
+    assert bool(EXEMPT.search(line)) == is_reported

@@ -121,8 +121,8 @@ class Browser:
         self.driver.add_cookie({"name": name, "value": value, "path": f"{window.root}/", "httpOnly": True})
 
     def measure(self, height: Any) -> None:
-        told = {"width": self.size[0], "height": height, "deviceScaleFactor": 1, "mobile": self.size == PHONE}
-        self.driver.execute_cdp_cmd("Emulation.setDeviceMetricsOverride", told)
+        metrics = {"width": self.size[0], "height": height, "deviceScaleFactor": 1, "mobile": self.size == PHONE}
+        self.driver.execute_cdp_cmd("Emulation.setDeviceMetricsOverride", metrics)
 
     @property
     def is_phone(self) -> bool:

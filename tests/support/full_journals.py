@@ -16,9 +16,9 @@ def days_of(day: datetime.date) -> bytes:
 
 
 def records(kind: bytes, numbers: list[bytes], day: datetime.date, amount: int, premium: int) -> bytes:
-    front = b"\x01" + kind
+    prefix = b"\x01" + kind
     rest = days_of(day) + amount.to_bytes(8, "big") + premium.to_bytes(8, "big") + bytes(36)
-    return b"".join(front + number + rest for number in numbers)
+    return b"".join(prefix + number + rest for number in numbers)
 
 
 def fill(out: Path, today: datetime.date) -> None:
