@@ -63,3 +63,29 @@ def test_of_what_no_bundle_is_made(small_office: Folder) -> None:
 def test_a_book_without_reserves_has_no_sample(small_office: Folder) -> None:
     small_office.printed("report", "2019-12-31", "--at", "11", "--bundle", "page.html")
     assert "Every row has a reserve of 0, so none was drawn." in plain(small_office.read("page.html"))
+
+
+def large(folder: Folder) -> None:
+    """Writes a book of more than a thousand millions, and with more policies that are not valued than are listed."""
+    folder.write("basis.csv", "2020-01-01,g.xml,400\n")
+    early = "".join(f"1,issue,{number},2019-01-15,whole,30,0,1000.00,10.00\n" for number in range(4000000001, 4000000031))
+    folder.post(early + "".join(f"1,issue,{number},2020-01-15,{plan},30,20,99999999.99,1000.00\n"
+                                f"1,premium,{number},2020-01-15,1000.00\n"
+                                for number, plan in enumerate(["endowment", "term", "limited"] * 5, 1)))
+
+
+@pytest.mark.browser
+def test_no_table_scrolls_sideways(examples_basis: Folder) -> None:
+    from tests.support.browser import DESK, TABLET, WIDE, Browser
+    large(examples_basis)
+    for words in (["--bundle", "bundle.html", "--rows", "3"], ["--html", "report.html", "--deficiency", "--by", "plan"]):
+        examples_basis.printed("report", "2024-12-31", *words)
+    for size in (DESK, TABLET):
+        browser = Browser(size, examples_basis.path)
+        try:
+            for name in ("bundle", "report"):
+                browser.driver.get(f"file://{examples_basis.path}/{name}.html")
+                wide = browser.driver.execute_script(WIDE.replace("'.table'", "'.wide'").replace("'.table, pre'", "'.wide, pre'"))
+                assert not wide and "and 10 more" in browser.driver.page_source, f"{name} at {size}: {wide}"
+        finally:
+            browser.close()

@@ -17,7 +17,7 @@ NAMED = 20
 STYLE = """
 :root { color-scheme: light }
 * { box-sizing: border-box }
-body { font: 16px/1.45 system-ui, sans-serif; color: #1b1f23; background: #fff; margin: 0 auto; padding: 1rem; max-width: 64rem }
+body { font: 16px/1.45 system-ui, sans-serif; color: #1b1f23; background: #fff; margin: 0 auto; padding: 1rem; max-width: 76rem }
 h1 { font-size: 1.5rem; margin: .2rem 0 } h2 { font-size: 1.15rem; margin: 2rem 0 .5rem } p { margin: .4rem 0 }
 .facts { display: grid; grid-template-columns: repeat(auto-fit, minmax(14rem, 1fr)); gap: .6rem; margin: 1rem 0 }
 .facts div { background: #f3f6f9; border-radius: .4rem; padding: .6rem .8rem }
@@ -26,9 +26,11 @@ dl { display: grid; grid-template-columns: max-content 1fr; gap: .1rem 1rem; fon
 dd { margin: 0; overflow-wrap: anywhere }
 .facts span { color: #57606a; font-size: .85rem }
 .wide { overflow-x: auto }
-table { border-collapse: collapse; width: 100%; font-size: .9rem; font-variant-numeric: tabular-nums }
+table { border-collapse: collapse; width: 100%; font-size: .85rem; font-variant-numeric: tabular-nums }
 th, td { padding: .3rem .6rem; text-align: right; white-space: nowrap; border-bottom: 1px solid #d9dee3 }
 th:first-child, td:first-child { text-align: left } tr.total td { font-weight: 600; border-top: 2px solid #1b1f23 }
+th, .why td { white-space: normal }
+@media (max-width: 66rem) { table { font-size: .66rem } th, td { padding: .3rem .2rem } }
 @media print { tr { break-inside: avoid } tr.total { break-before: avoid } }
 .bars { margin: .6rem 0 }
 .bar { display: grid; grid-template-columns: minmax(6rem, 12rem) 1fr minmax(5rem, auto); gap: .6rem; align-items: center }
@@ -103,7 +105,7 @@ def words_of(rows: Rows) -> str:
             cells.append([NO_VALUE[word], WORDS[word], f"{len(numbers):,}", ", ".join(map(str, numbers[:NAMED].tolist())) + more])
     if not cells:
         return "<p>Each policy has bounds.</p>"
-    return table([NOT_VALUED, "why", "policies", "numbers"], cells)
+    return f"<div class=\"why\">{table([NOT_VALUED, 'why', 'policies', 'numbers'], cells)}</div>"
 
 
 def page(title: str, provenance: dict[str, str], valuation: ColumnValuation, total: Sums,
