@@ -44,7 +44,7 @@ DEEDS: dict[str, Callable[[Desk], object]] = {
 
 def delayed(desk: Desk, kind: str, k: int) -> subprocess.Popen[bytes]:
     """Starts a run of which one call is delayed, and waits until the file hasn't changed for a while. A preview is slow."""
-    microseconds, still = (1_500_000, 0.2) if desk.program.is_proved else (6_000_000, 1.0)
+    microseconds, still = (3_000_000, 0.6) if desk.program.is_proved else (6_000_000, 1.0)
     run = desk.start(["run"], strace(desk, "-P", desk.journal, "-P", JOURNAL, "-e", f"trace={kind}", "-e",
                                      f"inject={kind}:delay_enter={microseconds}:when={k}"))
     last, since = None, time.monotonic()
