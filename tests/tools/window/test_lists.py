@@ -8,6 +8,7 @@ from pathlib import Path
 from life_tools.journal.columns import columns_at
 from life_tools.window import tables
 from life_tools.window.lists import SORTED, Sought, found_in, made_order
+from life_tools.window.parts import Table, cells, heads
 from tests.support.folders import Folder
 
 Rows = list[tuple[object, ...]]
@@ -50,3 +51,12 @@ def test_a_list_of_an_earlier_position_is_that_of_a_journal_that_ends_there(live
     tables.make_list(str(tmp_path / "list"), whole, lambda doing, at, most: None)
     tables.make(str(tmp_path / "tables"), str(cut), lambda doing, at, most: None)
     assert list(pages(tmp_path / "list", position)) == list(pages(tmp_path / "tables", position))
+
+
+def test_which_tables_are_too_wide_for_a_tablet() -> None:
+    """A sheet of six sums of eleven digits is, and one of eight digits isn't; a list has its own form for a narrow page."""
+    names = ["line", "whole", "endowment", "term", "limited", "paid up", "total"]
+    large, small = "15,728,693,257.88", "15,728,693.88"
+    for amount, kind, wanted in ((large, "", True), (small, "", False), (large, "list", False)):
+        assert Table("Amounts", heads(names), [cells(["issued", *[amount] * 6])], kind=kind).is_wide == wanted, amount
+    assert Table("Many", heads([str(each) for each in range(10)]), [cells(range(10))]).is_wide

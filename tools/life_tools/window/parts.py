@@ -8,6 +8,8 @@ from life_tools.reports.report_pages import apart
 
 # a cell on the right has a number or an amount
 RIGHT = "right"
+# a tablet has space for so many columns, and for so many digits side by side
+MOST_HEADS, MOST_LETTERS = 9, 88
 
 
 @dataclass(frozen=True)
@@ -83,6 +85,13 @@ class Table:
     is_sum: Sequence[bool] = ()
     # `list` is a list of policies or postings, in which a row takes two lines on a narrow page
     kind: str = ""
+
+    @property
+    def is_wide(self) -> bool:
+        """Returns whether a tablet is too narrow for the table, which then has a card for each row there."""
+        columns = [column for head, column in zip(self.heads, zip(*self.rows)) if head.kind == RIGHT]
+        letters = sum(max(len(cell.text) for cell in column) for column in columns)
+        return len(self.heads) > MOST_HEADS or self.kind != "list" and letters > MOST_LETTERS
 
 
 def cells(texts: Iterable[object]) -> list[Cell]:
