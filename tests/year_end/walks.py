@@ -128,9 +128,9 @@ class Walk:
         wanted = self.sums.reserves(rows, f"CRVM {method}", f"paid up {method}")
         read = sheet_rows(self.office.at(sheets, "reserves.csv"))
         found = [[row[0], cents(row[1].rstrip("%")), *row[2:5], *map(value_of, row[5:])]
-                 for row in read if row[0] != "total" and not row[2].startswith("no value")]
+                 for row in read if row[0] != "total" and not row[2].startswith("not valued")]
         self.office.same("reserves", sorted(found), sorted(wanted))
-        without = sum(int(row[5]) for row in read if row[2].startswith("no value"))
+        without = sum(int(row[5]) for row in read if row[2].startswith("not valued"))
         self.office.same("reserves without a value", without, self.sums.total(3)[2])
 
     def basis_rows(self, name: str) -> list[tuple[str, str, int]]:

@@ -67,7 +67,7 @@ def demand_printed(moment: Moment, minimum: ColumnValuation, total: list[int], w
     printed = [*moment.valuation.total[:2], minimum.total[3] - minimum.total[1]]
     demand_whole(total[2:] == printed, f"reserves: the sums are {total[2:]} cents, and {printed} are printed")
     demand_whole(without == moment.valuation.words == minimum.words,
-                 f"reserves: {without} policies have no value, and {moment.valuation.words} are printed so")
+                 f"reserves: {without} policies are not valued, and {moment.valuation.words} are printed so")
 
 
 def deficiency_notes(period: Period, minimum: ColumnValuation) -> list[str]:
