@@ -51,8 +51,8 @@ def tell_progress(book: BookCopy) -> None:
     progress.end()
 
 
-class Ended(Exception):
-    """A signal ends the window."""
+class Ended(BaseException):
+    """A signal ends the window. No Exception, which the server would take for a failed request if the signal came during one."""
 
 
 def ended(_: int, __: FrameType | None) -> None:
