@@ -5,6 +5,7 @@ pub mod FileNames
 pub mod FileLaws
 pub mod Faults
 pub mod Memory
+pub mod Moments
 pub mod inside
 pub mod Plans
 pub mod Reading

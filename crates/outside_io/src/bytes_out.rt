@@ -59,6 +59,8 @@ impl<D: Disk> Sink for BytesSink<D> {
 
     ghost tied = { λ s. s.tied };
 
+    ghost allows = { λ _ _. Unit {0} };
+
     fn faults(&self) -> u64 {
         self.plan.faults()
     }
@@ -73,7 +75,7 @@ impl<D: Disk> Sink for BytesSink<D> {
             (Some (sink_bytes self.new)) result bytes.now }
         ensures tells { StillTells (Some (sink_bytes self.old)) (Some (sink_bytes self.new)) }
         ensures piece { TakesPiece (pieces_by self.old.taken self.old.by) (pieces_by self.new.taken self.new.by)
-            result bytes.now since.now }
+            result bytes.now since.now.clock }
         ensures whole { IfOk result (λ n. n ≡ length bytes.now) }
         ensures fails { FailsNext (sink_plan self.old) → IsErr result }
         ensures failing { plan_failing (sink_plan self.new) ≡ plan_failing (sink_plan self.old) }

@@ -1,5 +1,6 @@
 // Moments of a disk's time, which only the disk tells.
-ghost use Rattle.std.specs.Prelude.{◌≡◌, max};
+ghost use Rattle.std.specs.Prelude.{◌≡◌, [], ◌∷◌};
+ghost use Rattle.outside_io.specs.Moments.{later_of};
 
 use crate::Disk;
 use std::marker::Model;
@@ -18,25 +19,26 @@ enum Passed<D: Disk> {
     },
 }
 
-/// A moment of the disk's time. It is the beginning of all time, or the disk told it. It has no number when the program runs.
+/// A moment of the disk's time: the beginning of all time, or a moment that a disk reported. Contracts see its number and the
+/// states of the disk that it was made from. It has no bytes when the program runs.
 #[derive(Drop)]
 pub struct Moment<D: Disk> {
     passed: Passed<D>,
 }
 
 impl<D: Disk> Model for Moment<D> {
-    ghost use Rattle.std.specs.Prelude.{ℕ};
-    ghost use Rattle.outside_io.specs.inside.Passing.{latest};
+    ghost use Rattle.outside_io.specs.Moments.{DiskTime};
+    ghost use Rattle.outside_io.specs.inside.Passing.{time_of};
 
-    ghost Value = { ℕ };
+    ghost Value = { DiskTime D };
 
-    ghost view = { λ moment. latest D.Disk moment.passed };
+    ghost view = { λ moment. time_of D.Disk moment.passed };
 }
 
 impl<D: Disk> Moment<D> {
     /// The beginning of all time.
     pub fn start() -> Moment<D>
-        ensures { result ≡ 0 }
+        ensures { result ≡ record { clock = 0; states = [] } }
     {
         Moment {
             passed: Passed::Start,
@@ -45,7 +47,7 @@ impl<D: Disk> Moment<D> {
 
     /// The disk's moment now.
     pub fn of(disk: &D) -> Moment<D>
-        ensures { result ≡ D.clock disk.now }
+        ensures { result ≡ record { clock = D.clock disk.now; states = disk.now ∷ [] } }
     {
         Moment {
             passed: Passed::At {
@@ -56,7 +58,7 @@ impl<D: Disk> Moment<D> {
 
     /// The later of the two.
     pub fn later(&self, other: &Moment<D>) -> Moment<D>
-        ensures { result ≡ max self.now other.now }
+        ensures { result ≡ later_of self.now other.now }
     {
         Moment {
             passed: Passed::Later {

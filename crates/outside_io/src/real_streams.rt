@@ -1,5 +1,5 @@
 // The readers and writers of the standard library as streams. Each notes what passed, for contracts alone.
-ghost use Rattle.std.specs.Prelude.{◌≡◌, ◌≢◌, ◌⊎◌, ◌<◌, ◌≤◌, None, Some, [], IfOk, OnOk, IfErr, length};
+ghost use Rattle.std.specs.Prelude.{◌≡◌, ◌≢◌, ◌⊎◌, ◌<◌, ◌≤◌, None, Some, [], ◌++◌, IfOk, OnOk, IfErr, length};
 ghost use Rattle.std.specs.IoError.{error_kind};
 ghost use Rattle.std.specs.Io.KnownBytes.{ReadConsumes, WriteAppends};
 ghost use Rattle.outside_io.specs.Faults.{HasCause};
@@ -9,9 +9,10 @@ ghost use Rattle.outside_io.specs.StreamLaws.{nothing_told};
 use crate::counting::counted;
 use crate::pieces::Pieces;
 use crate::taken_moments::Moments;
-use crate::{Disk, Failed, Moment, Sink, Source};
+use crate::{Allowing, Anything, Disk, Failed, Moment, Sink, Source};
 use std::io;
 use std::io::{ErrorKind, Read, Write};
+use std::marker::PhantomData;
 
 /// Reads what a reader gives, as standard input.
 #[derive(Drop)]
@@ -68,25 +69,28 @@ impl<R: Read> Source for StdSource<R> {
     }
 }
 
-/// Writes to a writer that keeps nothing back, as standard output. A writer that takes nothing is at fault.
+/// Writes to a writer that keeps nothing back, as standard output. A writer that takes nothing is at fault. `P` says what may
+/// be written.
 #[derive(Drop)]
-pub struct StdSink<W: Write, D: Disk> {
+pub struct StdSink<W: Write, D: Disk, P: Allowing<D> = Anything> {
     writer: W,
+    permits: PhantomData<P>,
     faults: u64,
     taken: Pieces,
     by: Moments<D>,
     ghost tied: { passed_bytes taken ≡ taken_bytes (pieces_by taken by) },
 }
 
-impl<W: Write, D: Disk> StdSink<W, D> {
+impl<W: Write, D: Disk, P: Allowing<D>> StdSink<W, D, P> {
     /// It had no fault so far, and took nothing.
-    pub fn new(writer: W) -> StdSink<W, D>
+    pub fn new(writer: W) -> StdSink<W, D, P>
         ensures faults { result.faults ≡ 0 }
         ensures taken { result.taken ≡ [] }
         ensures by { result.by ≡ [] }
     {
         StdSink {
             writer,
+            permits: PhantomData,
             faults: 0,
             taken: Pieces::new(),
             by: Moments::new(),
@@ -94,7 +98,7 @@ impl<W: Write, D: Disk> StdSink<W, D> {
     }
 }
 
-impl<W: Write, D: Disk> Sink for StdSink<W, D> {
+impl<W: Write, D: Disk, P: Allowing<D>> Sink for StdSink<W, D, P> {
     type Beside = D;
 
     ghost faults = { λ s. s.faults };
@@ -105,11 +109,14 @@ impl<W: Write, D: Disk> Sink for StdSink<W, D> {
 
     ghost tied = { λ s. s.tied };
 
+    ghost allows = { λ bytes states. P.allows bytes states };
+
     fn faults(&self) -> u64 {
         self.faults
     }
 
     fn write(&mut self, bytes: &[u8], since: &Moment<D>) -> Result<usize, Failed>
+        requires allowed { P.allows (taken_bytes (pieces_by self.old.taken self.old.by) ++ bytes.now) since.now.states }
         ensures cause { HasCause self.old.faults self.new.faults result }
         ensures held { OnOk result (self.new.faults ≡ self.old.faults) }
         ensures bound { IfOk result (λ n. n ≤ length bytes.now) }
@@ -119,7 +126,7 @@ impl<W: Write, D: Disk> Sink for StdSink<W, D> {
         ensures bytes { WriteAppends (Some (passed_bytes self.old.taken)) (Some (passed_bytes self.new.taken))
             result bytes.now }
         ensures piece { TakesPiece (pieces_by self.old.taken self.old.by) (pieces_by self.new.taken self.new.by)
-            result bytes.now since.now }
+            result bytes.now since.now.clock }
     {
         // The call of the writer. Where it fails it took nothing, and nothing is noted.
         let many = counted(take_some(&mut self.writer, bytes), &mut self.faults)?;

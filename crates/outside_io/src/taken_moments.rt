@@ -1,4 +1,4 @@
-// The moments by which a sink took its pieces, for contracts alone.
+// The moments by which a sink took its pieces, as their numbers, for contracts alone.
 ghost use Rattle.std.specs.Prelude.{◌≡◌, [], ◌∷◌};
 
 use crate::{Disk, Moment};
@@ -42,7 +42,7 @@ impl<D: Disk> Moments<D> {
 
     // One moment more.
     pub(crate) fn note(&mut self, moment: &Moment<D>)
-        ensures { self.new ≡ moment.now ∷ self.old }
+        ensures { self.new ≡ moment.now.clock ∷ self.old }
     {
         let earlier = mem::replace(&mut self.noted, Snapshot::of(&Noted::Nothing));
         let noted = Noted::Of {

@@ -12,7 +12,7 @@ invariant-loop-taken g l = record {
   held : g.K.Sink.faults l.sink ≡ g.K.Sink.faults l.initial.sink;
   written : Appends (g.K.Sink.written l.initial.sink) (g.K.Sink.written l.sink) (take l.taken l.bytes);
   tells : StillTells (g.K.Sink.written l.initial.sink) (g.K.Sink.written l.sink);
-  pieces : HasAdded (g.K.Sink.pieces l.initial.sink) (g.K.Sink.pieces l.sink) l.since (take l.taken l.bytes);
+  pieces : HasAdded (g.K.Sink.pieces l.initial.sink) (g.K.Sink.pieces l.sink) l.since.clock (take l.taken l.bytes);
 }
 
 abbrev pub decreases-loop-taken : goal.decreases-loop-taken
