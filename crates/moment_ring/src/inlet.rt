@@ -2,6 +2,7 @@
 ghost use Rattle.std.specs.Prelude.{◌≡◌, [], ◌∷◌, ◌++◌};
 ghost use Rattle.rtrb.specs.Ring.{SameConsumer, received};
 
+use crate::numbered::Numbered;
 use outside_io::{Disk, Moment};
 use rtrb::Consumer;
 use std::alloc::Global;
@@ -11,18 +12,18 @@ use std::sync::Wait;
 /// Where moments are heard, in the order in which they were told.
 #[derive(Drop)]
 pub struct MomentInlet<D: Disk> {
-    pub ring: Consumer<Moment<D>, Global>,
+    pub ring: Consumer<Numbered<D>, Global>,
 }
 
 impl<D: Disk> MomentInlet<D> {
     /// The next moment. It waits until that is told.
     pub fn next<R: Wait>(&mut self, rt: &R) -> Moment<D>
         ensures ring { SameConsumer self.old.ring self.new.ring }
-        ensures received { received self.new.ring ≡ received self.old.ring ++ result ∷ [] }
+        ensures received { received self.new.ring ≡ received self.old.ring ++ result.clock ∷ [] }
     {
         for _ in rt.forever() {
             if let Ok(moment) = self.ring.pop() {
-                return moment;
+                return moment.moment();
             }
             hint::spin_loop();
         }

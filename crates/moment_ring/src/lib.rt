@@ -2,9 +2,11 @@
 #![tactic(auto)]
 
 mod inlet;
+mod numbered;
 mod outlet;
 mod rings;
 
 pub use inlet::MomentInlet;
+pub use numbered::Numbered;
 pub use outlet::MomentOutlet;
 pub use rings::{beside, moment_ring};

@@ -2,6 +2,7 @@
 ghost use Rattle.std.specs.Prelude.{◌≡◌, None};
 ghost use Rattle.moment_ring.specs.Ends.{HasRoomFor, TellsOne};
 
+use crate::numbered::Numbered;
 use outside_io::{Disk, Moment};
 use rtrb::Producer;
 use std::alloc::Global;
@@ -9,7 +10,7 @@ use std::alloc::Global;
 /// Where moments are told; or nowhere, where nobody hears.
 #[derive(Drop)]
 pub struct MomentOutlet<D: Disk> {
-    pub ring: Option<Producer<Moment<D>, Global>>,
+    pub ring: Option<Producer<Numbered<D>, Global>>,
 }
 
 impl<D: Disk> MomentOutlet<D> {
@@ -23,10 +24,10 @@ impl<D: Disk> MomentOutlet<D> {
     /// Tells a moment.
     pub fn tell(&mut self, moment: Moment<D>)
         requires room { HasRoomFor 1 self.old.ring }
-        ensures { TellsOne self.old.ring self.new.ring moment }
+        ensures { TellsOne self.old.ring self.new.ring moment.clock }
     {
         match &mut self.ring {
-            Some(ring) => ring.push_reserved(moment),
+            Some(ring) => ring.push_reserved(Numbered::of(moment)),
             None => (),
         }
     }
