@@ -25,9 +25,13 @@ use Rattle.policy_types.specs.declared.watcher.Report.{Report}
 use Rattle.program_endings.specs.Writing.{WroteOrFailed}
 use Rattle.script_run.specs.Shown.{AreSafeWhenShown}
 use Rattle.std.specs.Prelude.{decimal}
-use Rattle.life_app.specs.Durable.{HasWholeLine, IsDurable, SpellsCommands, accepted_line}
-use Rattle.life_app.proofs.AcceptedLines.{HasLines, SaysAccepted, accepted_content, accepted_is, find, free_accepted, none_there, reports_lines}
-use Rattle.life_app.proofs.LineLaws.{IsFree, lines_text, start_lines}
+use Rattle.durable_lines.specs.Kept.{SpellsCommands}
+use Rattle.durable_lines.specs.Lines.{HasWholeLine, accepted_line}
+use Rattle.life_app.specs.Durable.{IsDurable}
+use Rattle.durable_lines.proofs.AcceptedLines.{HasLines, accepted_content, accepted_is, free_accepted, none_there}
+use Rattle.life_app.proofs.AcceptedLines.{find}
+use Rattle.transcript_text.proofs.TextLines.{SaysAccepted, reports_lines}
+use Rattle.durable_lines.proofs.LineLaws.{IsFree, lines_text, start_lines}
 
 -- ---- what the output has taken
 

@@ -11,11 +11,14 @@ use Rattle.text_lines.specs.Lines.{line_of}
 use Rattle.trial_load.specs.Generating.{EndsGenerate}
 use Rattle.trial_load.specs.inside.Loaded.{load_text}
 use Rattle.valuing_modes.specs.Valuing.{position_of}
-use Rattle.life_app.specs.Durable.{IsDurable, SpellsCommands}
-use Rattle.life_app.proofs.AcceptedLines.{HasLines, accepted_content, block_lines, free_both, no_lines}
+use Rattle.durable_lines.specs.Kept.{SpellsCommands}
+use Rattle.life_app.specs.Durable.{IsDurable}
+use Rattle.durable_lines.proofs.AcceptedLines.{HasLines, accepted_content, no_lines}
+use Rattle.durable_lines.proofs.FieldLaws.{free_both}
+use Rattle.transcript_text.proofs.TextLines.{block_lines}
 use Rattle.life_app.proofs.DurableLaws.{IsFresh, front_all, front_part, none_durable}
 use Rattle.life_app.proofs.OtherTexts.{account_lines, books_lines, checkpoint_lines, generated_lines, load_lines, projection_lines}
-use Rattle.life_app.proofs.LetterLines.{free_by, free_number}
+use Rattle.durable_lines.proofs.AcceptedLines.{free_by, free_number}
 use Rattle.life_app.proofs.ToldStays.{by_run, line_durable, no_office, refused, unasked, without_basis}
 
 -- no line of the text is that of an accepted posting

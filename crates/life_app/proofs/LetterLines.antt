@@ -1,23 +1,10 @@
 -- What is written in place of a transcript is one line, which begins with a letter
-use Rattle.life_app.proofs.Names.{◌≡◌, ℕ, ◌≤◌, Bool, true, List, [], ◌∷◌, ◌++◌, codes, get_or, refl, inl, inr, arith, nat_le, ◌&&◌, and_parts, leb-true, decimal, Ghosts, EndsNoOffice, EndsNoBasis, EndsUnread, Input, Shelving, Stream, WroteLine, Ending, Usage, BadScript, BadBasis, BadJournal, ReadFault, DiskFault, NoMemory, status_of, NotAJournal, BadRecord, SaysUnasked}
+use Rattle.durable_lines.proofs.AcceptedLines.{are_above, free_by, free_number}
+use Rattle.durable_lines.proofs.FieldLaws.{free_both}
+use Rattle.durable_lines.proofs.LineLaws.{IsFree}
+use Rattle.life_app.proofs.Names.{◌≡◌, ℕ, ◌≤◌, true, List, ◌∷◌, ◌++◌, codes, get_or, refl, inl, inr, arith, decimal, Ghosts, EndsNoOffice, EndsNoBasis, EndsUnread, Input, Shelving, Stream, WroteLine, Ending, Usage, BadScript, BadBasis, BadJournal, ReadFault, DiskFault, NoMemory, status_of, NotAJournal, BadRecord, SaysUnasked}
 use Rattle.office_state.specs.declared.faults.StartCause.{StartCause}
 use Rattle.program_endings.specs.Refusals.{SaysWhy}
-use Rattle.life_app.proofs.AcceptedLines.{bare_any, feedless, free_both}
-use Rattle.life_app.proofs.LineLaws.{IsFree}
-
--- whether each byte is above a line feed, 10
-abbrev pub are_above : List ℕ → Bool
-are_above [] = true
-are_above (b ∷ bytes) = nat_le 11 b && are_above bytes
-
-pub free_by : (bytes : List ℕ) → are_above bytes ≡ true → IsFree bytes
-free_by [] all = tt
-free_by (b ∷ bytes) all =
-    let parts = and_parts (nat_le 11 b) (are_above bytes) all in
-    let high = leb-true 11 b parts.0 in ((λ feed. omega (arith, feed, high)), free_by bytes parts.1)
-
-pub free_number : (n : ℕ) → IsFree (decimal n)
-free_number n = feedless (decimal n) (bare_any n)
 
 -- a line was written that begins with a letter, or a part of it where the output failed
 abbrev pub WroteLetters : Stream → Type 0

@@ -3,10 +3,8 @@ pub mod Parts
 pub mod CrashLaws
 pub mod FaultsTold
 pub mod TextLaws
-pub mod LineLaws
 pub mod AcceptedLines
 pub mod DurableLaws
-pub mod DecimalLaws
 pub mod LetterLines
 pub mod ToldStays
 pub mod OtherTexts

@@ -28,8 +28,10 @@ use Rattle.stating_modes.specs.Books.{books_text}
 use Rattle.text_lines.specs.Fields.{entry_fields, insurance_fields}
 use Rattle.text_lines.specs.Lines.{line_of}
 use Rattle.trial_load.specs.inside.Loaded.{load_text}
-use Rattle.life_app.proofs.AcceptedLines.{HasLines, accepted_content, accepted_fields, bare_any, bare_fields, bare_money, both_lines, content_of, free_content, letter_line, no_lines, not_number, one_line, other_line, same_content}
-use Rattle.life_app.proofs.TextLaws.{AreBare, IsBare, bare_by, bare_day, bare_kind, bare_status}
+use Rattle.durable_lines.proofs.AcceptedLines.{HasLines, accepted_content, accepted_fields, bare_fields, both_lines, letter_line, no_lines, not_number, one_line, other_line}
+use Rattle.durable_lines.proofs.FieldLaws.{bare_any, bare_money, content_of, free_content, same_content}
+use Rattle.durable_lines.proofs.FieldLaws.{AreBare, IsBare, bare_by, bare_kind, bare_status}
+use Rattle.transcript_text.proofs.TextLines.{bare_day}
 
 bare_signed : (amount : ℤ) → IsBare (signed_cents_text amount)
 bare_signed (pos n) = bare_money n

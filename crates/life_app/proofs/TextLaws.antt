@@ -1,143 +1,23 @@
 -- The text of a line is read back as its fields, and a block as its rows
-use Rattle.life_app.proofs.Names.{◌≡◌, ℕ, zero, suc, ◌+◌, ◌/◌, ◌%◌, ◌^◌, ◌<◌, ◌≤◌, ℤ, List, [], ◌∷◌, ◌++◌, drop, length, map, get_or, refl, ap, ap₂, sym, ◌∙◌, subst, arith, codes, lit<, Bool, true, nat_le, ◌&&◌, decimal, if◌then◌else◌, ◌==◌, AllByRecursion, flat_map, and_parts, leb-true, Date, date_of, date_text, day_text, two_digits, NoBasis, BelowTable, PastTable, RateHigh, InForce, Lapsed, Claimed, Matured, Expired, Settled, PaidUp, Terminal, Row, Bounds, Both, Word, block_text, heading_text, row_text, total_text, worth_fields, Command, Reply, Accepted, Refused, Faulted, Blank, reply_fields, AreAlike, IsPlainReply, IsPlainRow, IsPlainWorth, TellsApart, run_wording}
-use Rattle.std.specs.Int.Digits.{digits_of}
-use Rattle.std.proofs.lemmas.Fmt.{decimal_digit, decimal-digits_of, decimal_injective}
+use Rattle.std.proofs.lemmas.Fmt.{decimal_injective}
 use Rattle.std.proofs.lemmas.List.{append_assoc}
-use Rattle.money_core.proofs.CentsTextLemmas.{hundredths_text}
+use Rattle.durable_lines.proofs.FieldLaws.{IsBare, bare_by, bare_both, bare_number, bare_hundredths, same_front, AreBare, ends, behind_first, same_fields, same_line, bare_status, bare_kind}
+use Rattle.life_app.proofs.Names.{◌≡◌, ℕ, ◌/◌, ◌%◌, ◌^◌, ◌<◌, ℤ, List, ◌∷◌, ◌++◌, drop, length, get_or, refl, ap, ap₂, sym, ◌∙◌, arith, codes, decimal, if◌then◌else◌, ◌==◌, AllByRecursion, flat_map, day_text, NoBasis, BelowTable, PastTable, RateHigh, InForce, Lapsed, Claimed, Matured, Expired, Settled, PaidUp, Terminal, Row, Bounds, Both, Word, block_text, heading_text, row_text, total_text, worth_fields, Command, Reply, Accepted, Refused, Faulted, Blank, reply_fields, AreAlike, IsPlainReply, IsPlainRow, IsPlainWorth, TellsApart, run_wording, []}
+use Rattle.money_core.proofs.CentsTextLemmas.{hundredths_text, cents_text_injective}
 use Rattle.money_core.specs.CentsText.{cents_text}
-use Rattle.money_core.proofs.CentsTextLemmas.{cents_text_injective}
 use Rattle.plan_benefits.specs.declared.fault.NotValued.{NotValued}
+use Rattle.policy_types.specs.Valid.{id_of}
 use Rattle.policy_types.specs.Words.{kind_word, status_word}
 use Rattle.policy_types.specs.declared.policy.Status.{Status}
 use Rattle.policy_value.specs.declared.worth.Worth.{Worth}
 use Rattle.text_lines.specs.Lines.{behind_commas, line_of}
-use Rattle.policy_types.specs.Valid.{id_of}
-use Rattle.policy_types.specs.declared.command.Command.TheVariants.{Issue, Premium, Alter, Lapse, Reinstate, Claim, Settle, Mature, PaidUp as PaidUpCommand, Upgrade}
-
--- ---- fields without a comma and a line feed
-
--- each byte is `-` or above, so none is a comma, 44, or a line feed, 10
-abbrev pub IsBare : List ℕ → Type 0
-IsBare field = AllByRecursion (λ b. 45 ≤ b) field
-
-abbrev pub is_bare : List ℕ → Bool
-is_bare [] = true
-is_bare (b ∷ bs) = nat_le 45 b && is_bare bs
-
-pub bare_by : (field : List ℕ) → is_bare field ≡ true → IsBare field
-bare_by [] all = tt
-bare_by (b ∷ bs) all = let parts = and_parts (nat_le 45 b) (is_bare bs) all in (leb-true 45 b parts.0, bare_by bs parts.1)
-
-pub bare_both : (xs ys : List ℕ) → IsBare xs → IsBare ys → IsBare (xs ++ ys)
-bare_both [] ys one two = two
-bare_both (x ∷ xs) ys one two = (one.0, bare_both xs ys one.1 two)
-
-bare_digits : (digits : List ℕ) → IsBare (map (λ d. 48 + d) digits)
-bare_digits [] = tt
-bare_digits (d ∷ digits) = (omega arith, bare_digits digits)
-
-pub bare_number : (n : ℕ) → n < 2 ^ 64 → IsBare (decimal n)
-bare_number zero small = subst IsBare (sym (decimal_digit 0 (omega arith))) (omega arith, tt)
-bare_number (suc n) small = subst IsBare (sym (decimal-digits_of (suc n) (omega arith) small)) (bare_digits (digits_of 10 (suc n)))
-
-pub bare_hundredths : (n : ℕ) → IsBare (hundredths_text n)
-bare_hundredths n = (omega arith, (omega arith, (omega arith, tt)))
+use Rattle.transcript_text.proofs.TextLines.{bare_day}
 
 bare_cents : (n : ℕ) → n < 2 ^ 64 → IsBare (cents_text n)
 bare_cents n small =
     bare_both (decimal (n / 100)) (hundredths_text (n % 100)) (bare_number (n / 100) (omega (arith, small))) (bare_hundredths (n % 100))
 
-bare_two : (n : ℕ) → IsBare (two_digits n)
-bare_two n = (omega arith, (omega arith, tt))
-
-bare_date : (date : Date) → IsBare (date_text date)
-bare_date date = bare_both (two_digits (date.year / 100) ++ two_digits (date.year % 100) ++ (45 ∷ two_digits date.month)) (45 ∷ two_digits date.day)
-    (bare_both (two_digits (date.year / 100) ++ two_digits (date.year % 100)) (45 ∷ two_digits date.month)
-    (bare_both (two_digits (date.year / 100)) (two_digits (date.year % 100)) (bare_two _) (bare_two _)) (omega arith, bare_two date.month))
-    (omega arith, bare_two date.day)
-
-pub bare_day : (day : ℤ) → IsBare (day_text day)
-unfolding day_text
-bare_day day = bare_date (date_of day)
-
--- ---- a line is read as its fields
-
--- it begins with a byte below `-`
-abbrev IsEnd : List ℕ → Type 0
-IsEnd [] = ⊥
-IsEnd (byte ∷ more) = byte < 45
-
-tail : List ℕ → List ℕ
-tail [] = []
-tail (byte ∷ more) = more
-
-pub heads : (c d : ℕ) (xs ys : List ℕ) → c ∷ xs ≡ d ∷ ys → c ≡ d
-heads c d xs ys same = ap (λ (l : List ℕ). get_or l 0 0) same
-
-tails : (c d : ℕ) (xs ys : List ℕ) → c ∷ xs ≡ d ∷ ys → xs ≡ ys
-unfolding tail
-tails c d xs ys same = ap tail same
-
--- the same field, and the same rest
-same_front : (a b x y : List ℕ) → IsBare a → IsBare b → IsEnd x → IsEnd y → a ++ x ≡ b ++ y → (a ≡ b) × (x ≡ y)
-same_front [] [] x y one two low other same = (refl, same)
-same_front [] (d ∷ b) [] y one two low other same = absurd low
-same_front [] (d ∷ b) (c ∷ x) y one two low other same =
-    absurd (let first = heads c d x (b ++ y) same in let high = two.0 in omega (arith, first, high, low))
-same_front (c ∷ a) [] x [] one two low other same = absurd other
-same_front (c ∷ a) [] x (d ∷ y) one two low other same =
-    absurd (let first = heads c d (a ++ x) y same in let high = one.0 in omega (arith, first, high, other))
-same_front (c ∷ a) (d ∷ b) x y one two low other same =
-    let rest = same_front a b x y one.1 two.1 low other (tails c d (a ++ x) (b ++ y) same) in
-    (ap₂ (λ (e : ℕ) (es : List ℕ). e ∷ es) (heads c d (a ++ x) (b ++ y) same) rest.0, rest.1)
-
-abbrev pub AreBare : List (List ℕ) → Type 0
-AreBare fields = AllByRecursion IsBare fields
-
-ends : (fields : List (List ℕ)) (x : List ℕ) → IsEnd (behind_commas fields ++ 10 ∷ x)
-ends [] x = lit< tt
-ends (field ∷ fields) x = lit< tt
-
-behind_first : (f g : List ℕ) (fs gs : List (List ℕ)) (x y : List ℕ)
-    → behind_commas (f ∷ fs) ++ 10 ∷ x ≡ behind_commas (g ∷ gs) ++ 10 ∷ y
-    → f ++ (behind_commas fs ++ 10 ∷ x) ≡ g ++ (behind_commas gs ++ 10 ∷ y)
-behind_first f g fs gs x y same =
-    sym (append_assoc f (behind_commas fs) (10 ∷ x)) ∙ tails 44 44 _ _ same ∙ append_assoc g (behind_commas gs) (10 ∷ y)
-
--- fields after commas, and then a line feed
-same_fields : (fs gs : List (List ℕ)) (x y : List ℕ) → AreBare fs → AreBare gs
-    → behind_commas fs ++ 10 ∷ x ≡ behind_commas gs ++ 10 ∷ y → (fs ≡ gs) × (x ≡ y)
-same_fields [] [] x y one two same = (refl, tails 10 10 x y same)
-same_fields [] (g ∷ gs) x y one two same = absurd (let first = heads 10 44 x _ same in omega (arith, first))
-same_fields (f ∷ fs) [] x y one two same = absurd (let first = heads 44 10 _ y same in omega (arith, first))
-same_fields (f ∷ fs) (g ∷ gs) x y one two same =
-    let front = same_front f g _ _ one.0 two.0 (ends fs x) (ends gs y) (behind_first f g fs gs x y same) in
-    let rest = same_fields fs gs x y one.1 two.1 front.1 in
-    (ap₂ (λ (e : List ℕ) (es : List (List ℕ)). e ∷ es) front.0 rest.0, rest.1)
-
-line_before : (a : List ℕ) (fs : List (List ℕ)) (x : List ℕ) → line_of a fs ++ x ≡ a ++ (behind_commas fs ++ 10 ∷ x)
-line_before a fs x =
-    append_assoc (a ++ behind_commas fs) (10 ∷ []) x ∙ append_assoc a (behind_commas fs) (10 ∷ x)
-
--- a line, and what stands after it
-pub same_line : (a b : List ℕ) (fs gs : List (List ℕ)) (x y : List ℕ) → IsBare a → IsBare b → AreBare fs → AreBare gs
-    → line_of a fs ++ x ≡ line_of b gs ++ y → (a ≡ b) × (fs ≡ gs) × (x ≡ y)
-same_line a b fs gs x y first other one two same =
-    let joined = sym (line_before a fs x) ∙ same ∙ line_before b gs y in
-    let front = same_front a b _ _ first other (ends fs x) (ends gs y) joined in
-    let rest = same_fields fs gs x y one two front.1 in
-    (front.0, rest.0, rest.1)
-
 -- ---- the row of a policy
-
-pub bare_status : (status : Status) → IsBare (status_word status)
-bare_status InForce = bare_by (codes "inforce") refl
-bare_status Lapsed = bare_by (codes "lapsed") refl
-bare_status Claimed = bare_by (codes "claimed") refl
-bare_status Matured = bare_by (codes "matured") refl
-bare_status Expired = bare_by (codes "expired") refl
-bare_status Settled = bare_by (codes "settled") refl
-bare_status PaidUp = bare_by (codes "paidup") refl
 
 status_by : ℕ → Status
 status_by letter =
@@ -267,18 +147,6 @@ rows_told clerk other on day position place rows others small_clerk small_other 
     (at, same_rows rows others (total_text Terminal rows) (total_text Terminal others) long plain bare heading.2)
 
 -- ---- the line of a posting
-
-pub bare_kind : (command : Command) → IsBare (kind_word command)
-bare_kind (Issue id day plan age years amount premium) = bare_by (codes "issue") refl
-bare_kind (Premium id day amount) = bare_by (codes "premium") refl
-bare_kind (Alter id day amount premium) = bare_by (codes "alter") refl
-bare_kind (Lapse id day) = bare_by (codes "lapse") refl
-bare_kind (Reinstate id day amount) = bare_by (codes "reinstate") refl
-bare_kind (Claim id day) = bare_by (codes "claim") refl
-bare_kind (Settle id day amount) = bare_by (codes "settle") refl
-bare_kind (Mature id day) = bare_by (codes "mature") refl
-bare_kind (PaidUpCommand id day amount) = bare_by (codes "paidup") refl
-bare_kind Upgrade = bare_by (codes "upgrade") refl
 
 -- other letters after the comma
 letters : (n m : ℕ) (xs ys : List ℕ) → (n ≡ m → ⊥) → 44 ∷ n ∷ xs ≡ 44 ∷ m ∷ ys → ⊥

@@ -3,14 +3,15 @@ use Rattle.life_app.proofs.Names.{◌≡◌, ℕ, ◌≤◌, List, [], ◌∷◌
 use Rattle.office_state.specs.declared.faults.StartCause.{StartCause}
 use Rattle.program_endings.specs.Refusals.{SaysWhy}
 use Rattle.script_run.specs.Shown.{AreSafeWhenShown}
-use Rattle.life_app.specs.Durable.{IsDurable, SpellsCommands}
+use Rattle.durable_lines.specs.Kept.{SpellsCommands}
+use Rattle.life_app.specs.Durable.{IsDurable}
 use Rattle.life_app.specs.Given.{Reserves}
-use Rattle.life_app.proofs.AcceptedLines.{letter_line}
+use Rattle.durable_lines.proofs.AcceptedLines.{letter_line}
 use Rattle.life_app.proofs.DurableLaws.{IsFresh, front_ended, front_or, none_durable, run_durable}
 use Rattle.life_app.proofs.HeadlineLaws.{promised}
 use Rattle.life_app.proofs.LetterLines.{WroteLetters}
 use Rattle.life_app.proofs.LetterLines as letters
-use Rattle.life_app.proofs.LineLaws.{IsFree}
+use Rattle.durable_lines.proofs.LineLaws.{IsFree}
 
 module _ {D : Type 0} (g : Ghosts D) (old new : D) (output : Stream) (fresh : IsFresh output) where
   abbrev pub Durable : Type 0

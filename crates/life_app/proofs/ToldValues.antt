@@ -17,7 +17,7 @@ use Rattle.life_app.proofs.DurableLaws.{IsFresh, IsFront, front_all, front_ended
 use Rattle.life_app.proofs.HeadlineLaws.{each_pair, enclosing, promised}
 use Rattle.life_app.proofs.LetterLines.{WroteLetters}
 use Rattle.life_app.proofs.LetterLines as letters
-use Rattle.life_app.proofs.TextLaws.{bare_by}
+use Rattle.durable_lines.proofs.FieldLaws.{bare_by}
 use Rattle.life_app.proofs.ValueLines.{deficiency_heading, heading_content, letter_first, low_heading, mean_heading, measured_none}
 use Rattle.life_app.proofs.ValuesLaws.{OpensFrom, block_enclosed, none_enclosed, run_enclosed, there_from}
 

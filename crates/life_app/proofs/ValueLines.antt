@@ -18,10 +18,14 @@ use Rattle.policy_value.specs.declared.worth.Measure.{Measure}
 use Rattle.policy_value.specs.declared.worth.Measure.TheVariants.{Deficiency, Mean}
 use Rattle.report_text.specs.Block.{sum_fields, total_of}
 use Rattle.text_lines.specs.Lines.{line_of}
-use Rattle.life_app.proofs.AcceptedLines.{HasLines, among_all, are_digits, bare_any, bare_money, bare_reply, bare_worth_of, both_lines, content_of, free_content, low_number, no_lines, none_there, one_line, same_content}
-use Rattle.life_app.proofs.DecimalLaws.{one_amount, one_number}
-use Rattle.life_app.proofs.LineLaws.{IsFree, among, lines_text, same_first}
-use Rattle.life_app.proofs.TextLaws.{AreBare, IsBare, bare_by, bare_day, bare_kind, bare_status, heading_fields, one_field, row_fields, same_line, same_status, same_worth}
+use Rattle.durable_lines.proofs.AcceptedLines.{HasLines, among_all, both_lines, no_lines, none_there, one_line}
+use Rattle.durable_lines.proofs.FieldLaws.{are_digits, bare_any, bare_money, content_of, free_content, low_number, same_content}
+use Rattle.transcript_text.proofs.TextLines.{bare_reply, bare_worth_of}
+use Rattle.durable_lines.proofs.DecimalLaws.{one_amount, one_number}
+use Rattle.durable_lines.proofs.LineLaws.{IsFree, among, lines_text, same_first}
+use Rattle.durable_lines.proofs.FieldLaws.{AreBare, IsBare, bare_by, bare_kind, bare_status, same_line}
+use Rattle.life_app.proofs.TextLaws.{heading_fields, one_field, row_fields, same_status, same_worth}
+use Rattle.transcript_text.proofs.TextLines.{bare_day}
 
 -- ---- a row is read back, however large its numbers
 

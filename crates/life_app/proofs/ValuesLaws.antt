@@ -24,14 +24,14 @@ use Rattle.policy_types.specs.declared.script.Line.{Line}
 use Rattle.policy_types.specs.declared.script.Line.TheVariants.{Value}
 use Rattle.policy_types.specs.declared.watcher.Report.{Report}
 use Rattle.record_codec.specs.Spelling.{spelling_of}
-use Rattle.life_app.specs.Durable.{HasWholeLine}
+use Rattle.durable_lines.specs.Lines.{HasWholeLine}
 use Rattle.life_app.specs.Given.{Reserves}
 use Rattle.life_app.specs.Texts.{IsPlainRow}
 use Rattle.life_app.specs.Values.{HoldsCommands, IsEnclosed, IsRightRow, lines_upto}
-use Rattle.life_app.proofs.AcceptedLines.{HasLines, no_lines, none_there}
-use Rattle.life_app.proofs.DecimalLaws.{one_number}
+use Rattle.durable_lines.proofs.AcceptedLines.{HasLines, no_lines, none_there}
+use Rattle.durable_lines.proofs.DecimalLaws.{one_number}
 use Rattle.life_app.proofs.DurableLaws.{IsFront, all_at, turn_there}
-use Rattle.life_app.proofs.LineLaws.{IsFree, lines_text, start_lines}
+use Rattle.durable_lines.proofs.LineLaws.{IsFree, lines_text, start_lines}
 use Rattle.life_app.proofs.TextLaws.{heading_fields}
 use Rattle.life_app.proofs.ValueLines.{find_block, free_heading, heading_content, heading_is, in_block, one_row, opened_up, reports_none, row_of_block}
 

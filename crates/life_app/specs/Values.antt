@@ -5,7 +5,8 @@ use Rattle.life_dates.specs.Calendar.{IsDay}
 use Rattle.outside_io.specs.Streams.{taken_bytes}
 use Rattle.policy_machine.specs.Book.{policy_of}
 use Rattle.report_text.specs.Block.{heading_text, row_text}
-use Rattle.life_app.specs.Durable.{HasWholeLine, SpellsCommands}
+use Rattle.durable_lines.specs.Kept.{SpellsCommands}
+use Rattle.durable_lines.specs.Lines.{HasWholeLine}
 use Rattle.life_app.specs.Given.{Reserves}
 use Rattle.life_app.specs.Headline.{IsEnclosingRow}
 use Rattle.life_app.specs.Names.{Command, Dated, Ghosts, IsValid, Policy, Row, TakenPiece, Terminal}

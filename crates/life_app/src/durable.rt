@@ -1,7 +1,8 @@
 // Durability, as a function that does nothing.
 ghost use Rattle.std.specs.Prelude.{◌≡◌, ◌≢◌, ℕ, List, Option, Some, []};
 ghost use Rattle.life_app.specs.Names.{between, input_between, shelf_between, Auditor};
-ghost use Rattle.life_app.specs.Durable.{IsDurable, SpellsCommands};
+ghost use Rattle.durable_lines.specs.Kept.{SpellsCommands};
+ghost use Rattle.life_app.specs.Durable.{IsDurable};
 ghost use Rattle.life_app.specs.Obeys.{Obeys};
 
 use outside_io::{Disk, Shelf, Sink, Source};

@@ -6,5 +6,6 @@ pub mod TextSteps
 pub mod ToldSteps
 pub mod Telling
 pub mod WritableSteps
+pub mod TextLines
 pub mod PlaceSteps
 pub mod AcceptedSteps

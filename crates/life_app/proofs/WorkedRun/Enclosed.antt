@@ -16,7 +16,7 @@ use Rattle.record_codec.specs.Spelling.{spelling_of}
 use Rattle.std.specs.Prelude.{◌*◌, map}
 use Rattle.valuing_modes.proofs.WorkedValuation.{first_row}
 use Rattle.valuing_modes.specs.Worked.Valued.{from_2000}
-use Rattle.life_app.specs.Durable.{HasWholeLine}
+use Rattle.durable_lines.specs.Lines.{HasWholeLine}
 use Rattle.life_app.specs.TableReserves.{IsTableReserve}
 use Rattle.life_app.specs.Values.{HoldsCommands, IsRightRow, lines_upto}
 use Rattle.life_app.specs.WorkedRun.Calls.{called}

@@ -7,13 +7,14 @@ use Rattle.policy_types.specs.declared.script.Line.TheVariants.{Post}
 use Rattle.lane_runner.specs.AnsweredLines.{AnsweredLine, AreLinesOf}
 use Rattle.policy_machine.specs.Merge.{IsMerge, Placed}
 use Rattle.script_run.specs.Shown.{AreSafeWhenShown}
-use Rattle.life_app.specs.Durable.{HasWholeLine, OpensWith, SpellsCommands, accepted_line}
-use Rattle.life_app.proofs.AcceptedLines.{HasLines, accepted_content, accepted_is, free_accepted, none_there}
+use Rattle.durable_lines.specs.Kept.{OpensWith, SpellsCommands}
+use Rattle.durable_lines.specs.Lines.{HasWholeLine, accepted_line}
+use Rattle.durable_lines.proofs.AcceptedLines.{HasLines, accepted_content, accepted_is, free_accepted, none_there}
 use Rattle.life_app.proofs.DurableLaws.{there_in}
 use Rattle.life_app.proofs.HeadlineLaws.{by_script, headline}
 use Rattle.life_app.proofs.LegalityLaws.{legally_answered}
 use Rattle.life_app.specs.Legality.{reply_line}
-use Rattle.life_app.proofs.LetterLines.{free_by}
+use Rattle.durable_lines.proofs.AcceptedLines.{free_by}
 use Rattle.life_app.proofs.ToldStays.{promised_durable}
 use Rattle.life_app.specs.WorkedRun.Promise.{DurableByHand, LegalByHand, LineByHand}
 use Rattle.life_app.proofs.WorkedRun.Calls.{is_still, looks_safe}

@@ -4,7 +4,7 @@ use Rattle.plan_benefits.specs.declared.fault.NotValued.TheVariants.{BelowTable}
 use Rattle.policy_types.specs.declared.policy.Status.{Status}
 use Rattle.policy_value.specs.declared.worth.Worth.{Worth}
 use Rattle.policy_value.specs.declared.worth.Worth.TheVariants.{Word}
-use Rattle.life_app.specs.Durable.{HasWholeLine}
+use Rattle.durable_lines.specs.Lines.{HasWholeLine}
 use Rattle.life_app.specs.Values.{HoldsCommands, IsEnclosed, lines_upto}
 use Rattle.life_args.specs.Words.{IsValue}
 use Rattle.life_app.specs.WorkedRun.Names.{Bounds, Done, EndsValue, InForce, Now, Row, Terminal, table_reserves}

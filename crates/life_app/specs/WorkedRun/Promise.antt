@@ -1,7 +1,9 @@
 -- What the headline says of the worked run's second half: the script, what is written, and the basis that is given
 use Rattle.std.specs.Prelude.{◌⊎◌, ◌==◌, ℕ, ◌<◌, false, length, List, [], ◌∷◌, ◌++◌, Option, Some, codes}
 use Rattle.life_app.specs.WorkedRun.Names.{IsBasis, Reads, lane_of, Agrees, Answer, Lane, Post, Opens, AnsweredLine, hand_issue, hand_premium, premium_turn, Accepted, Input, IsWholeInput, Shelving, Stream, Done, EndsRead, EndsRun, Auditor, AreSafeWhenShown, EndsScript, IsRunOf, input_that_gave, IsGivenBasis, IsPromised, IsUnrun, Obeys, table_reserves, run_wording, AreWords, Run}
-use Rattle.life_app.specs.Durable.{HasWholeLine, IsDurable, SpellsCommands, accepted_line}
+use Rattle.durable_lines.specs.Kept.{SpellsCommands}
+use Rattle.durable_lines.specs.Lines.{HasWholeLine, accepted_line}
+use Rattle.life_app.specs.Durable.{IsDurable}
 use Rattle.life_app.specs.Legality.{GivesReply, IsLegallyAnswered}
 use Rattle.watcher_set.specs.Premiums.{premiums_of}
 use Rattle.life_app.specs.WorkedRun.Calls.{CalledDisk, called, cut_disk, last_disk}

@@ -3,7 +3,7 @@ use Rattle.std.proofs.Common.{◌≡◌, ℕ, ◌==◌, ◌⊎◌, Bool, true, f
 use Rattle.std.proofs.lemmas.Bool.{eqb-false}
 use Rattle.std.proofs.lemmas.Map.Views.{exact_unsigned_eq}
 use Rattle.std.specs.List.{AllByRecursion}
-use Rattle.life_app.specs.Durable.{AreWholeLines}
+use Rattle.durable_lines.specs.Lines.{AreWholeLines}
 
 -- no byte is a line feed
 abbrev pub IsFree : List ℕ → Type 0
