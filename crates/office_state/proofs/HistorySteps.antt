@@ -195,7 +195,7 @@ holds_more opening history command image pending bytes =
     now_once opening history image (there_more opening history command image pending bytes)
 
 -- each turn of a legal history has its reply
-due_in : (opening : Opening) (done before : List Entry) (entry : Entry) (after : List Entry) → IsLegalAfter opening done (before ++ entry ∷ after)
+pub due_in : (opening : Opening) (done before : List Entry) (entry : Entry) (after : List Entry) → IsLegalAfter opening done (before ++ entry ∷ after)
     → IsDue opening (done ++ before) entry.caller entry.call entry.reply
 due_in opening done [] entry after legal = rw append-nil legal.0
 due_in opening done (first ∷ before) entry after legal =

@@ -1,5 +1,5 @@
 // What is read of an office, and how it ends.
-ghost use Rattle.std.specs.Prelude.{◌≡◌, ◌<◌, ◌≤◌, Some, IfSome, List, length, take, slice_get};
+ghost use Rattle.std.specs.Prelude.{◌≡◌, ◌<◌, ◌≤◌, Some, IfSome, List, [], ◌∷◌, length, take, slice_get};
 ghost use Rattle.office_state.specs.Names.{Entry, balances, ledger_of, book, accepted_of, commands_after, floor_of, reports_of, sent};
 ghost use Rattle.office_state.specs.Images.{AreSafeSince, IsLeftBy};
 ghost use Rattle.office_state.specs.Standing.{KeepsFew, StandsFor};
@@ -8,7 +8,7 @@ ghost use Rattle.office_state.specs.States.{auditors_of, begun_of, commands_of, 
 use crate::state::OfficeState;
 use moment_ring::MomentOutlet;
 use money_ledgers::Ledger;
-use outside_io::Disk;
+use outside_io::{Disk, Moment};
 use policy_types::Policy;
 use watcher_set::{Reports, Watching};
 
@@ -18,6 +18,13 @@ impl<D: Disk, W: Watching> OfficeState<D, W> {
         ensures { result ≡ count_of self.now }
     {
         self.books.count()
+    }
+
+    /// The moment at which its disk stands.
+    pub fn moment(&self) -> Moment<D>
+        ensures { result.states ≡ disk_of self.now ∷ [] }
+    {
+        Moment::of(self.journal.disk())
     }
 
     /// How many turns were answered.
