@@ -3,3 +3,4 @@ pub mod Starting
 pub mod Holding
 pub mod Crossing
 pub mod Turned
+pub mod Safety

@@ -12,11 +12,12 @@ ghost use Rattle.shared_office.specs.inside.Pinning.{pin_told};
 
 use crate::batch::Batch;
 use crate::pin::Pin;
+use crate::posted::Posted;
 use crate::state::SharedState;
 use crate::turns::{PinNewest, PinPosition, Post, ReadPart, Trim, Unpin};
 use moment_ring::MomentOutlet;
 use money_ledgers::Ledger;
-use office_state::{Answer, Held, OfficeState, PinInfo, StartCause, StartFault};
+use office_state::{Held, OfficeState, PinInfo, StartCause, StartFault};
 use outside_io::Disk;
 use policy_types::{Command, NoMemory, PinRefusal};
 use std::alloc::Global;
@@ -50,11 +51,12 @@ pub trait OfficeCalls<D: Disk, W: Watching> {
         rt: &R,
         pass: &mut OfficePass<D, W>,
         command: &Command,
-    ) -> Turned<Answer>
+    ) -> Turned<Posted<D>>
         requires ours { pass.old.turnstile ≡ office self.now }
         requires left { 1 ≤ pass.old.left }
         requires valid { IsValid command.now }
-        ensures turn { TakesTurn result.turn (turn_of pass.old.caller command.now result.answer) pass.old pass.new }
+        ensures command { result.answer.command ≡ command.now }
+        ensures turn { TakesTurn result.turn (turn_of pass.old.caller command.now result.answer.answer) pass.old pass.new }
         ensures facts { PassFacts IsOfficeHistory pass.new }
         ensures pins { KeepsPins pass.old pass.new };
 
@@ -133,7 +135,7 @@ impl<D: Disk, W: Watching> OfficeCalls<D, W> for Office<D, W> {
         rt: &R,
         pass: &mut OfficePass<D, W>,
         command: &Command,
-    ) -> Turned<Answer> {
+    ) -> Turned<Posted<D>> {
         self.turn(rt, pass, Post { command })
     }
 

@@ -5,6 +5,7 @@
 mod batch;
 mod calls;
 mod pin;
+mod posted;
 mod state;
 mod turns;
 
@@ -12,4 +13,5 @@ pub use batch::Batch;
 pub use calls::{Office, OfficeCalls, OfficePass, close, start_telling};
 pub use office_state::{Answer, StartCause, StartFault};
 pub use pin::Pin;
+pub use posted::Posted;
 pub use state::{OpenedOn, SharedState};

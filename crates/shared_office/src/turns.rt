@@ -1,6 +1,7 @@
 // Each call of the office as a turn of its caller.
+use crate::posted::Posted;
 use crate::state::SharedState;
-use office_state::{Answer, Held, PinInfo, PolicyBatch};
+use office_state::{Held, PinInfo, PolicyBatch};
 use outside_io::Disk;
 use policy_types::{Command, PinRefusal};
 use turn_lock::Turn;
@@ -13,21 +14,23 @@ pub struct Post<'a> {
 }
 
 impl<'a, D: Disk, W: Watching> Turn<SharedState<D, W>> for Post<'a> {
-    ghost use Rattle.std.specs.Prelude.{refl};
+    ghost use Rattle.std.specs.Prelude.{◌≡◌, refl};
     ghost use Rattle.policy_types.specs.Valid.{IsValid};
     ghost use Rattle.office_state.specs.Posting.{turn_of};
 
-    type Answer = Answer;
+    type Answer = Posted<D>;
 
     ghost needs = { λ post caller seen made. IsValid post.command.now };
 
-    ghost entry = { λ post caller answer. turn_of caller post.command.now answer };
+    ghost entry = { λ post caller posted. turn_of caller post.command.now posted.answer };
 
-    ghost tells = { λ _ _ _ _. Unit {0} };
+    ghost tells = { λ post _ _ posted. posted.command ≡ post.command.now };
 
+    // The moment is that of the disk after the posting, and so after the sync that made it safe.
     #[tactic(auto, using(crate::proofs::Turned::turned))]
-    fn run(self, value: &mut SharedState<D, W>, caller: u64) -> Answer {
-        value.state.post(caller, self.command)
+    fn run(self, value: &mut SharedState<D, W>, caller: u64) -> Posted<D> {
+        let answer = value.state.post(caller, self.command);
+        Posted::new(answer, *self.command, value.state.moment())
     }
 
     ghost by_caller = { λ _ _ _. refl };
