@@ -50,7 +50,7 @@ fn read_back<D: Disk, W: Watching, R: Wait>(
     if !command.is_valid() {
         return None;
     }
-    let posted = office.post(rt, pass, &command).answer;
+    let (posted, _) = office.post(rt, pass, &command).answer.into_parts();
     let Ok(pin) = office.pin(rt, pass).answer else {
         return None;
     };
