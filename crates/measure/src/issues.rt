@@ -36,8 +36,8 @@ impl<D: Disk, W: Watching, R: Wait> Lane<SharedState<D, W>, R> for Issues {
         let mut accepted = 0;
         while done < self.each {
             let command = issue(done * 32 + place + 1);
-            let posted = gate.post(rt, pass, &command);
-            accepted += is_accepted(posted.answer);
+            let (answer, _) = gate.post(rt, pass, &command).answer.into_parts();
+            accepted += is_accepted(answer);
             done += 1;
         }
         accepted
