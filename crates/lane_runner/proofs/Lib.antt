@@ -8,6 +8,7 @@ pub mod MergeSteps
 pub mod TellSteps
 pub mod GatherSteps
 pub mod ShowSteps
+pub mod PaceSteps
 pub mod TakeSteps
 pub mod SettleSteps
 pub mod LaneSteps

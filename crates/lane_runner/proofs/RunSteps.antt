@@ -205,7 +205,7 @@ module _ {D W : Type 0} where
   )
 
   -- the lanes may be run in the seats that were entered for them
-  pub are_ready : (office : TableId) (old kept : Holding (OfficeOpening D W)) (lanes : List Lane) (outlets : List Outlet) (seats : List (Seat D W))
+  pub are_ready : (office : TableId) (old kept : Holding (OfficeOpening D W)) (lanes : List Lane) (outlets : List (Outlet D)) (seats : List (Seat D W))
       → AreRightLanes lanes → AllZip IsRoomFor lanes outlets → HasEntered old kept outlets seats → old.turnstile ≡ office
       → AllZip (IsReadySeat office) lanes seats
   are_ready office old kept lanes outlets seats right fitting entered ours =
@@ -213,7 +213,7 @@ module _ {D W : Type 0} where
       (recursion_from_All IsRightLane lanes right.right)
       (needed_each lanes 33554432 (omega (arith, needed_most (lines_in lanes), right.lines, right.values)))
 
-  module _ (basis : List Dated) (lanes : List Lane) (old kept new : Holding (OfficeOpening D W)) (outlets : List Outlet)
+  module _ (basis : List Dated) (lanes : List Lane) (old kept new : Holding (OfficeOpening D W)) (outlets : List (Outlet D))
       (olds news : List (Seat D W)) (right : AreRightLanes lanes) (entered : HasEntered old kept outlets olds)
       (run : HaveRun basis lanes olds news) (left : HasLeft kept new news) (facts_old : PassFacts IsOfficeHistory old)
       (facts : PassFacts IsOfficeHistory new) where

@@ -120,7 +120,7 @@ module _ {D W : Type 0} where
     pub left_next : turns_to_enter n ≤ new.left
     left_next = omega (arith, left_enough, new_left)
 
-    pub entered_more : (old : Holding (OfficeOpening D W)) (outlets : List Outlet) (seats : List (Seat D W)) (outlet : Outlet)
+    pub entered_more : (old : Holding (OfficeOpening D W)) (outlets : List (Outlet D)) (seats : List (Seat D W)) (outlet : Outlet D)
         → HasEntered old mid outlets seats → PassFacts IsOfficeHistory given
         → HasEntered old new (outlets ++ outlet ∷ []) (seats ++ (given, outlet) ∷ [])
     entered_more old outlets seats outlet so_far facts = record {
@@ -149,7 +149,7 @@ module _ {D W : Type 0} where
       );
       outlets_are =
           map-append (λ (seat : Seat D W). seat.1) seats ((given, outlet) ∷ [])
-          ∙ ap (λ (front : List Outlet). front ++ outlet ∷ []) so_far.outlets_are;
+          ∙ ap (λ (front : List (Outlet D)). front ++ outlet ∷ []) so_far.outlets_are;
     }
 
   pub shares_next : (mid new given : Holding (OfficeOpening D W)) (n : ℕ) → shares_to_enter (suc n) ≤ mid.shares → Enters mid new given
@@ -172,7 +172,7 @@ module _ {D W : Type 0} where
     ended = sym (append-nil pass.ended);
   }
 
-  pub left_more : (old mid new gone : Holding (OfficeOpening D W)) (seats : List (Seat D W)) (outlet : Outlet)
+  pub left_more : (old mid new gone : Holding (OfficeOpening D W)) (seats : List (Seat D W)) (outlet : Outlet D)
       → HasLeft old mid seats → LeavesLock gone mid new → HasLeft old new (seats ++ (gone, outlet) ∷ [])
   left_more old mid new gone seats outlet so_far leaves = record {
     turnstile = ap (λ (p : Holding (OfficeOpening D W)). p.turnstile) leaves.new_is ∙ so_far.turnstile;

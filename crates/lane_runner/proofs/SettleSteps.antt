@@ -4,21 +4,21 @@ use Rattle.lane_runner.proofs.RunSteps.{news_many, seats_many, told_lines}
 use Rattle.lane_runner.proofs.SeatSteps.{slice_whole}
 use Rattle.lane_runner.proofs.TakeSteps.{looked_merged}
 
-pub fed_to_come : (lanes : List Lane) (inlets : List Inlet) → AllZip IsInletFor lanes inlets → all_to_come inlets ≡ length (lines_in lanes)
+pub fed_to_come : {D : Type 0} → (lanes : List Lane) (inlets : List (Inlet D)) → AllZip IsInletFor lanes inlets → all_to_come inlets ≡ length (lines_in lanes)
 fed_to_come [] [] fed = refl
 fed_to_come [] (inlet ∷ inlets) fed = absurd fed
 fed_to_come (lane ∷ lanes) [] fed = absurd fed
 fed_to_come (lane ∷ lanes) (inlet ∷ inlets) fed =
     omega (arith, fed.0.left, fed_to_come lanes inlets fed.1, length-append lane.lines (lines_in lanes))
 
-pub fed_none : (lanes : List Lane) (inlets : List Inlet) → AllZip IsInletFor lanes inlets → AllByRecursion (λ (inlet : Inlet). received inlet.ring ≡ []) inlets
+pub fed_none : {D : Type 0} → (lanes : List Lane) (inlets : List (Inlet D)) → AllZip IsInletFor lanes inlets → AllByRecursion (λ (inlet : Inlet D). received inlet.ring ≡ []) inlets
 fed_none [] [] fed = tt
 fed_none [] (inlet ∷ inlets) fed = absurd fed
 fed_none (lane ∷ lanes) [] fed = absurd fed
 fed_none (lane ∷ lanes) (inlet ∷ inlets) fed = (fed.0.none, fed_none lanes inlets fed.1)
 
 module _ {D W : Type 0} where
-  pub are_spent : (basis : List Dated) (lanes : List Lane) (olds mids : List (Seat D W)) (inlets taken : List Inlet) → HaveRun basis lanes olds mids
+  pub are_spent : (basis : List Dated) (lanes : List Lane) (olds mids : List (Seat D W)) (inlets taken : List (Inlet D)) → HaveRun basis lanes olds mids
       → AllZip IsInletFor lanes inlets → AllZip IsEndOf olds inlets → AllZip HasTakenLines inlets taken → all_to_come taken ≡ 0 → AllZip IsSpent mids taken
   are_spent basis [] [] [] [] [] run fed ends took none = tt
   are_spent basis [] [] [] [] (after ∷ taken) run fed ends took none = absurd took
@@ -71,8 +71,8 @@ module _ {D W : Type 0} where
     same_run basis lanes olds mids news same.1 run.1,
   )
 
-  whole_taken : (seats : List (Seat D W)) (inlets : List Inlet) → AllZip IsWhole seats inlets
-      → flat_map (λ (inlet : Inlet). received inlet.ring) inlets ≡ flat_map (λ (seat : Seat D W). told_in seat) seats
+  whole_taken : (seats : List (Seat D W)) (inlets : List (Inlet D)) → AllZip IsWhole seats inlets
+      → flat_map (λ (inlet : Inlet D). received inlet.ring) inlets ≡ flat_map (λ (seat : Seat D W). told_in seat) seats
   whole_taken [] [] whole = refl
   whole_taken [] (inlet ∷ inlets) whole = absurd whole
   whole_taken (seat ∷ seats) [] whole = absurd whole
@@ -81,7 +81,7 @@ module _ {D W : Type 0} where
       let rest = whole_taken seats inlets whole.1 in λ i. here i ++ rest i
 
   -- the merged lines are those that the lanes reported
-  pub settled_moved : (olds news : List Inlet) (seats all : List (Seat D W)) (lines : List TranscriptLine) → all ≡ seats → AllZip HasLooked olds news
+  pub settled_moved : (olds news : List (Inlet D)) (seats all : List (Seat D W)) (lines : List TranscriptLine) → all ≡ seats → AllZip HasLooked olds news
       → AllZip IsWhole seats news → IsMerged olds lines → IsPermutation (flat_map (λ (seat : Seat D W). told_in seat) all) lines
   settled_moved olds news seats all lines same looked whole merged =
       subst (λ (l : List TranscriptLine). IsPermutation l lines)
@@ -94,11 +94,11 @@ module _ {D W : Type 0} where
   seats_whole basis lanes olds news n counted run =
       slice_whole n news olds (news_many basis lanes olds news run ∙ sym (seats_many basis lanes olds news run)) counted
 
-  pub ends_entered : (seats : List (Seat D W)) (outlets : List Outlet) (inlets : List Inlet) → map (λ (seat : Seat D W). seat.1) seats ≡ outlets
+  pub ends_entered : (seats : List (Seat D W)) (outlets : List (Outlet D)) (inlets : List (Inlet D)) → map (λ (seat : Seat D W). seat.1) seats ≡ outlets
       → AllZip AreEnds outlets inlets → AllZip IsEndOf seats inlets
-  ends_entered seats outlets inlets are ends = by seats inlets (subst (λ (l : List Outlet). AllZip AreEnds l inlets) (sym are) ends)
+  ends_entered seats outlets inlets are ends = by seats inlets (subst (λ (l : List (Outlet D)). AllZip AreEnds l inlets) (sym are) ends)
     where
-      by : (seats : List (Seat D W)) (inlets : List Inlet) → AllZip AreEnds (map (λ (seat : Seat D W). seat.1) seats) inlets → AllZip IsEndOf seats inlets
+      by : (seats : List (Seat D W)) (inlets : List (Inlet D)) → AllZip AreEnds (map (λ (seat : Seat D W). seat.1) seats) inlets → AllZip IsEndOf seats inlets
       by [] [] ends = tt
       by [] (inlet ∷ inlets) ends = absurd ends
       by (seat ∷ seats) [] ends = absurd ends

@@ -5,5 +5,6 @@ pub mod Transcripts
 pub mod Telling
 pub mod Written
 pub mod Shown
+pub mod Kept
 pub mod Tallies
 pub mod inside

@@ -7,9 +7,10 @@ ghost use Rattle.lane_runner.specs.inside.Parts.{HasAnswered, IsBoxed, IsRoomFor
 
 use crate::bell::LaneBell;
 use crate::telling::Outlet;
+use crate::told_line::ToldLine;
 use crate::transcript::{Outcome, TranscriptLine};
 use basis_book::Basis;
-use outside_io::{Disk, Gate};
+use outside_io::{Disk, Gate, Moment};
 use policy_types::{At, Lane, Line};
 use policy_value::Measure;
 use shared_office::{Office, OfficeCalls, OfficePass};
@@ -30,7 +31,7 @@ pub fn answer_lane<D: Disk, W: Watching, G: Gate, R: Threads + Wait + Sync>(
     basis: &Basis,
     gate: &G,
     bell: &LaneBell<'_>,
-    outlet: &mut Outlet,
+    outlet: &mut Outlet<D>,
 )
     requires right { IsRightLane lane.now }
     requires ours { pass.old.turnstile ≡ office.now }
@@ -50,7 +51,7 @@ pub fn answer_lane<D: Disk, W: Watching, G: Gate, R: Threads + Wait + Sync>(
 }
 
 // Tells an answered line, and wakes the writer where it sleeps for it.
-fn hand_over(outlet: &mut Outlet, bell: &LaneBell<'_>, told: TranscriptLine)
+fn hand_over<D: Disk>(outlet: &mut Outlet<D>, bell: &LaneBell<'_>, told: ToldLine<D>)
     requires room { 0 < known_free outlet.old.ring }
     requires follows { MayTellNext (sent outlet.old.ring) told }
     ensures ring { SameProducer outlet.old.ring outlet.new.ring }
@@ -71,7 +72,7 @@ fn answer_line<D: Disk, W: Watching, G: Gate, R: Threads + Wait + Sync>(
     line: &Line,
     basis: &Basis,
     gate: &G,
-) -> TranscriptLine
+) -> ToldLine<D>
     requires right { IsRightLine line.now }
     requires ours { pass.old.turnstile ≡ office.now }
     requires left { turns_for line.now ≤ pass.old.left }
@@ -82,12 +83,14 @@ fn answer_line<D: Disk, W: Watching, G: Gate, R: Threads + Wait + Sync>(
     match *line {
         Line::Post(command) => {
             let Turned { turn, answer } = office.post(rt, pass, &command);
-            TranscriptLine {
+            let (answer, since) = answer.into_parts();
+            let told = TranscriptLine {
                 lane,
                 turn,
                 line: Line::Post(command),
                 outcome: Outcome::Posted(answer),
-            }
+            };
+            ToldLine::new(told, since)
         }
         Line::Trim => answer_trim(rt, office, pass, lane),
         Line::Value { on, at, workers } => answer_value(
@@ -101,19 +104,20 @@ fn answer_trim<D: Disk, W: Watching, R: Wait>(
     office: &Office<D, W>,
     pass: &mut OfficePass<D, W>,
     lane: u8,
-) -> TranscriptLine
+) -> ToldLine<D>
     requires ours { pass.old.turnstile ≡ office.now }
     requires left { 1 ≤ pass.old.left }
     ensures answered { (basis : List Dated) → HasAnswered basis lane (TrimLine ∷ []) pass.old pass.new (result ∷ []) }
     ensures facts { PassFacts IsOfficeHistory pass.new }
 {
     let Turned { turn, answer } = office.trim(rt, pass);
-    TranscriptLine {
+    let told = TranscriptLine {
         lane,
         turn,
         line: Line::Trim,
         outcome: Outcome::Trimmed(answer),
-    }
+    };
+    ToldLine::new(told, Moment::start())
 }
 
 fn answer_value<D: Disk, W: Watching, G: Gate, R: Threads + Wait + Sync>(
@@ -127,7 +131,7 @@ fn answer_value<D: Disk, W: Watching, G: Gate, R: Threads + Wait + Sync>(
     workers: u8,
     basis: &Basis,
     gate: &G,
-) -> TranscriptLine
+) -> ToldLine<D>
     requires workers { (1 ≤ workers) × (workers ≤ 64) }
     requires ours { pass.old.turnstile ≡ office.now }
     requires left { most_turns ≤ pass.old.left }
@@ -141,12 +145,13 @@ fn answer_value<D: Disk, W: Watching, G: Gate, R: Threads + Wait + Sync>(
         workers,
     };
     let Turned { turn, answer } = value(rt, alloc, office, pass, query, at, lane, gate);
-    TranscriptLine {
+    let told = TranscriptLine {
         lane,
         turn,
         line: Line::Value { on, at, workers },
         outcome: told_of(boxed(alloc, answer)),
-    }
+    };
+    ToldLine::new(told, Moment::start())
 }
 
 // A valuation in a box, as it is told. Without memory for the box there is none.

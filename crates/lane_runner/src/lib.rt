@@ -9,6 +9,7 @@ mod page;
 mod rooms;
 mod running;
 mod telling;
+mod told_line;
 mod transcript;
 mod transcript_lines;
 mod wording;

@@ -5,6 +5,7 @@ ghost use Rattle.lane_runner.specs.declared.transcript.TranscriptLine.{Transcrip
 ghost use Rattle.lane_runner.specs.Tallies.{accepted_lines};
 ghost use Rattle.lane_runner.specs.inside.Gathering.{HasPutOut};
 ghost use Rattle.lane_runner.specs.inside.Merging.{HasLooked, HasNext, HasTakenLines, IsMerged, IsNearerOf, IsNearest, IsWaitedFor, all_to_come};
+ghost use Rattle.lane_runner.specs.inside.Pacing.{IsPaced};
 ghost use Rattle.lane_runner.specs.inside.Showing.{IsShowing};
 
 use crate::bell::{Sleeper, WriterBell};
@@ -30,7 +31,7 @@ pub fn merge<R: Wait, X: Wording, D: Disk, K: Sink<Beside = D>>(
     alloc: Global,
     bell: &WriterBell,
     count: usize,
-    inlets: &mut [Inlet],
+    inlets: &mut [Inlet<D>],
     moments: &mut MomentInlet<D>,
     page: &mut Page<D>,
     output: &mut K,
@@ -40,6 +41,8 @@ pub fn merge<R: Wait, X: Wording, D: Disk, K: Sink<Beside = D>>(
     requires merged { IsMerged inlets.old page.old.lines }
     requires page { (page.old.lines ≡ []) × (page.old.bytes.items ≡ []) × (page.old.stopped ≡ None) }
     requires none { received moments.old.ring ≡ [] }
+    requires step { IsPaced D.Disk K.allows (K.pieces output.old) page.old }
+    ensures step { IsPaced D.Disk K.allows (K.pieces output.new) page.new }
     ensures taken { AllZip HasTakenLines inlets.old inlets.new }
     ensures whole { all_to_come inlets.new ≡ 0 }
     ensures merged { IsMerged inlets.new page.new.lines }
@@ -50,7 +53,7 @@ pub fn merge<R: Wait, X: Wording, D: Disk, K: Sink<Beside = D>>(
     ensures ring { SameConsumer moments.old.ring moments.new.ring }
     ensures counted { length (received moments.new.ring) ≡ accepted_lines page.new.lines }
     ensures shown { IsShowing X.text (K.pieces output.old) (K.pieces output.new) page.new.lines (received moments.new.ring)
-        page.new.latest page.new.bytes.items page.new.stopped }
+        page.new.latest.clock page.new.bytes.items page.new.stopped }
 {
     let mut sleeper = Sleeper::at(bell);
     for _ in 0..count {
@@ -60,7 +63,7 @@ pub fn merge<R: Wait, X: Wording, D: Disk, K: Sink<Beside = D>>(
 }
 
 /// How many lines have yet to come.
-pub fn count_to_come(inlets: &[Inlet]) -> usize
+pub fn count_to_come<D: Disk>(inlets: &[Inlet<D>]) -> usize
     requires { all_to_come inlets.now ≤ 2 ^ 24 }
     ensures { result ≡ all_to_come inlets.now }
 {
@@ -76,7 +79,7 @@ fn merge_next<R: Wait, X: Wording, D: Disk, K: Sink<Beside = D>>(
     rt: &R,
     alloc: Global,
     sleeper: &mut Sleeper<'_>,
-    inlets: &mut [Inlet],
+    inlets: &mut [Inlet<D>],
     moments: &mut MomentInlet<D>,
     page: &mut Page<D>,
     output: &mut K,
@@ -85,6 +88,8 @@ fn merge_next<R: Wait, X: Wording, D: Disk, K: Sink<Beside = D>>(
     requires few { length page.old.lines < 2 ^ 24 }
     requires merged { IsMerged inlets.old page.old.lines }
     requires counted { length (received moments.old.ring) ≡ accepted_lines page.old.lines }
+    requires step { IsPaced D.Disk K.allows (K.pieces output.old) page.old }
+    ensures step { IsPaced D.Disk K.allows (K.pieces output.new) page.new }
     ensures taken { AllZip HasTakenLines inlets.old inlets.new }
     ensures fewer { all_to_come inlets.old ≡ all_to_come inlets.new + 1 }
     ensures merged { IsMerged inlets.new page.new.lines }
@@ -96,8 +101,8 @@ fn merge_next<R: Wait, X: Wording, D: Disk, K: Sink<Beside = D>>(
     ensures ring { SameConsumer moments.old.ring moments.new.ring }
     ensures counted { length (received moments.new.ring) ≡ accepted_lines page.new.lines }
     ensures shown { (first : List TakenPiece)
-        → IsShowing X.text first (K.pieces output.old) page.old.lines (received moments.old.ring) page.old.latest page.old.bytes.items page.old.stopped
-        → IsShowing X.text first (K.pieces output.new) page.new.lines (received moments.new.ring) page.new.latest page.new.bytes.items page.new.stopped }
+        → IsShowing X.text first (K.pieces output.old) page.old.lines (received moments.old.ring) page.old.latest.clock page.old.bytes.items page.old.stopped
+        → IsShowing X.text first (K.pieces output.new) page.new.lines (received moments.new.ring) page.new.latest.clock page.new.bytes.items page.new.stopped }
 {
     let near = wait_for_next(rt, sleeper, inlets, page, output);
     let told = inlets[near.place].take();
@@ -109,11 +114,13 @@ fn merge_next<R: Wait, X: Wording, D: Disk, K: Sink<Beside = D>>(
 fn wait_for_next<R: Wait, D: Disk, K: Sink<Beside = D>>(
     rt: &R,
     sleeper: &mut Sleeper<'_>,
-    inlets: &mut [Inlet],
+    inlets: &mut [Inlet<D>],
     page: &mut Page<D>,
     output: &mut K,
 ) -> Near
     requires some { 0 < all_to_come inlets.old }
+    requires step { IsPaced D.Disk K.allows (K.pieces output.old) page.old }
+    ensures step { IsPaced D.Disk K.allows (K.pieces output.new) page.new }
     ensures looked { AllZip HasLooked inlets.old inlets.new }
     ensures place { result.place < length inlets.new }
     ensures next { IsNearest inlets.new (Some result) }
@@ -123,8 +130,8 @@ fn wait_for_next<R: Wait, D: Disk, K: Sink<Beside = D>>(
         → HasPutOut faults (K.faults output.old) first (K.written output.old) text lines page.old.bytes.items page.old.stopped
         → HasPutOut faults (K.faults output.new) first (K.written output.new) text lines page.new.bytes.items page.new.stopped }
     ensures shown { (text : ALine → List ℕ) (first : List TakenPiece) (lines : List ALine) (moments : List ℕ)
-        → IsShowing text first (K.pieces output.old) lines moments page.old.latest page.old.bytes.items page.old.stopped
-        → IsShowing text first (K.pieces output.new) lines moments page.new.latest page.new.bytes.items page.new.stopped }
+        → IsShowing text first (K.pieces output.old) lines moments page.old.latest.clock page.old.bytes.items page.old.stopped
+        → IsShowing text first (K.pieces output.new) lines moments page.new.latest.clock page.new.bytes.items page.new.stopped }
 {
     for _ in rt.forever() {
         if let Some(near) = look(inlets, sleeper) {
@@ -138,7 +145,7 @@ fn wait_for_next<R: Wait, D: Disk, K: Sink<Beside = D>>(
 }
 
 // The first of all lanes' next lines, if each is told.
-fn look(inlets: &mut [Inlet], sleeper: &mut Sleeper<'_>) -> Option<Near>
+fn look<D: Disk>(inlets: &mut [Inlet<D>], sleeper: &mut Sleeper<'_>) -> Option<Near>
     ensures looked { AllZip HasLooked inlets.old inlets.new }
     ensures place { IfSome result (λ near. near.place < length inlets.new) }
     ensures next { IfSome result (λ near. IsNearest inlets.new (Some near)) }
@@ -151,7 +158,7 @@ fn look(inlets: &mut [Inlet], sleeper: &mut Sleeper<'_>) -> Option<Near>
 }
 
 // Whether each lane that has lines left has told its next one. The first is at this place.
-fn have_next(inlets: &mut [Inlet], sleeper: &mut Sleeper<'_>, place: usize) -> bool
+fn have_next<D: Disk>(inlets: &mut [Inlet<D>], sleeper: &mut Sleeper<'_>, place: usize) -> bool
     ensures looked { AllZip HasLooked inlets.old inlets.new }
     ensures next { IsTrue result → AllByRecursion HasNext inlets.new }
     ensures waits { IsFalse result → IsWaitedFor inlets.new }
@@ -166,7 +173,7 @@ fn have_next(inlets: &mut [Inlet], sleeper: &mut Sleeper<'_>, place: usize) -> b
 }
 
 // The lane with the first of all next lines, if lines are left.
-fn nearest(inlets: &[Inlet]) -> Option<Near>
+fn nearest<D: Disk>(inlets: &[Inlet<D>]) -> Option<Near>
     requires next { AllByRecursion HasNext inlets.now }
     ensures place { IfSome result (λ near. near.place < length inlets.now) }
     ensures nearest { IsNearest inlets.now result }

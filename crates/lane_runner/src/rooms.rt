@@ -14,13 +14,13 @@ use std::alloc::Global;
 use watcher_set::Watching;
 
 /// A lane's pass, and where it tells its lines.
-pub type Seat<D, W> = (OfficePass<D, W>, Outlet);
+pub type Seat<D, W> = (OfficePass<D, W>, Outlet<D>);
 
 /// The memory for what lanes answer.
 #[derive(Drop)]
 pub struct Room<D: Disk, W: Watching> {
-    pub outlets: Vec<Outlet>,
-    pub inlets: Vec<Inlet>,
+    pub outlets: Vec<Outlet<D>>,
+    pub inlets: Vec<Inlet<D>>,
     pub seats: Vec<Seat<D, W>>,
     pub callers: Vec<u64>,
     pub page: Page<D>,
@@ -31,7 +31,8 @@ pub fn room_for<D: Disk, W: Watching>(alloc: Global, lanes: &[Lane]) -> Result<R
     requires few { length lanes.now ≤ 8 }
     requires lines { length (lines_in lanes.now) ≤ 2 ^ 24 }
     ensures room { IfOk result (λ room. HasLaneRoom lanes.now room.outlets room.inlets room.seats room.callers) }
-    ensures page { IfOk result (λ room. (room.page.lines ≡ []) × (room.page.bytes.items ≡ []) × (room.page.stopped ≡ None)) }
+    ensures page { IfOk result (λ room. (room.page.lines ≡ []) × (room.page.bytes.items ≡ []) × (room.page.stopped ≡ None)
+        × (room.page.latest.states ≡ [])) }
 {
     let count = lanes.len();
     let (outlets, inlets) = rings_for(alloc, lanes)?;
@@ -48,7 +49,10 @@ pub fn room_for<D: Disk, W: Watching>(alloc: Global, lanes: &[Lane]) -> Result<R
 }
 
 // Takes the memory for each lane's lines.
-fn rings_for(alloc: Global, lanes: &[Lane]) -> Result<(Vec<Outlet>, Vec<Inlet>), NoMemory>
+fn rings_for<D: Disk>(
+    alloc: Global,
+    lanes: &[Lane],
+) -> Result<(Vec<Outlet<D>>, Vec<Inlet<D>>), NoMemory>
     requires few { length lanes.now ≤ 8 }
     requires lines { length (lines_in lanes.now) ≤ 2 ^ 24 }
     ensures outlets { IfOk result (λ rings. AllZip IsRoomFor lanes.now rings.0.items) }
@@ -65,7 +69,7 @@ fn rings_for(alloc: Global, lanes: &[Lane]) -> Result<(Vec<Outlet>, Vec<Inlet>),
     Ok((outlets, inlets))
 }
 
-fn ring_of(alloc: Global, lane: &Lane) -> Result<(Outlet, Inlet), NoMemory>
+fn ring_of<D: Disk>(alloc: Global, lane: &Lane) -> Result<(Outlet<D>, Inlet<D>), NoMemory>
     requires few { length lane.now.lines ≤ 2 ^ 24 }
     ensures outlet { IfOk result (λ ring. IsRoomFor lane.now ring.0) }
     ensures inlet { IfOk result (λ ring. IsInletFor lane.now ring.1) }

@@ -1,6 +1,7 @@
 // Lanes are run at the same time, each in a pass of its own, and a writer beside them writes their lines.
-ghost use Rattle.std.specs.Prelude.{◌≡◌, ◌≤◌, ◌<◌, ◌^◌, [], None, length, map, vec_capacity, OnErr, IfOk};
-ghost use Rattle.lane_runner.specs.Names.{AllByRecursion, AllZip, flat_map, PassFacts, IsOfficeHistory, lines_in, SameConsumer, received, IsPermutation};
+ghost use Rattle.std.specs.Prelude.{◌≡◌, ◌≤◌, ◌<◌, ◌^◌, [], None, length, map, vec_capacity, OnOk, OnErr, IfOk};
+ghost use Rattle.durable_lines.specs.Steps.{IsInStep};
+ghost use Rattle.lane_runner.specs.Names.{AllByRecursion, AllZip, flat_map, PassFacts, IsOfficeHistory, lines_in, SameConsumer, received, IsPermutation, taken_bytes};
 ghost use Rattle.std.specs.Thread.{IsSync};
 ghost use Rattle.lane_runner.specs.Lanes.{AreRightLanes};
 ghost use Rattle.lane_runner.specs.Transcripts.{HasAnsweredLanes};
@@ -9,6 +10,7 @@ ghost use Rattle.lane_runner.specs.Tallies.{accepted_lines};
 ghost use Rattle.lane_runner.specs.Written.{HasEnded};
 ghost use Rattle.lane_runner.specs.inside.Gathering.{HasPutOut};
 ghost use Rattle.lane_runner.specs.inside.Merging.{AreInOrder, HasLooked, IsMerged, all_to_come};
+ghost use Rattle.lane_runner.specs.inside.Pacing.{IsPaced};
 ghost use Rattle.lane_runner.specs.inside.Showing.{IsShowing};
 ghost use Rattle.lane_runner.specs.inside.Parts.{HasEntered, HasLeft, HasRunAt, HaveRun, IsEndOf, IsInletFor, IsReadySeat, IsReadyAt, IsSameSeat, IsSpent, IsWhole, shares_to_enter, told_in, turns_to_enter};
 
@@ -35,12 +37,13 @@ use watcher_set::Watching;
 pub struct Ran<D: Disk> {
     pub transcript: Transcript,
     pub written: Result<(), Unwritten>,
-    /// The latest of the moments since which the accepted lines are safe.
+    /// The latest of the moments since which the accepted lines are safe, made from all of their states.
     pub latest: Moment<D>,
 }
 
 /// Runs lanes at the same time, each by a caller of its own, gives their lines by rising turns, and writes the text of each
-/// line as soon as none can come before it. Where the output fails, or memory is wanting for a text, no more is written, and
+/// line as soon as none can come before it. A line that reports an accepted posting is handed to the output only by states of
+/// the disk of which one keeps the posting: the output need take nothing else. Where the output fails, or memory is wanting for a text, no more is written, and
 /// the lanes go on.
 ///
 /// The memory for the lines is taken before the first turn: where it is wanting, no turn is taken and the pass stays. The
@@ -68,11 +71,14 @@ pub fn run_lanes<
     requires left { 2 ^ 40 ≤ pass.old.left }
     requires shares { 2 ^ 10 ≤ pass.old.shares }
     requires unheard { received moments.old.ring ≡ [] }
+    requires step { IsInStep D.Disk K.allows (taken_bytes (K.pieces output.old)) [] }
     ensures answered { IfOk result (λ ran. HasAnsweredLanes basis.now lanes.now pass.old pass.new ran.transcript) }
     ensures wrote { IfOk result (λ ran. HasEnded (K.faults output.old) (K.faults output.new) (K.written output.old) (K.written output.new)
         X.text ran.transcript.lines ran.written) }
     ensures shown { IfOk result (λ ran. HasShown X.text (K.pieces output.old) (K.pieces output.new) ran.transcript.lines
-        (received moments.new.ring) ran.latest ran.written) }
+        (received moments.new.ring) ran.latest.clock ran.written) }
+    ensures step { IfOk result (λ ran. OnOk ran.written
+        (IsInStep D.Disk K.allows (taken_bytes (K.pieces output.new)) ran.latest.states)) }
     ensures ring { SameConsumer moments.old.ring moments.new.ring }
     ensures later { K.faults output.old ≤ K.faults output.new }
     ensures refused { OnErr result ((pass.new ≡ pass.old) × (output.new ≡ output.old) × (moments.new ≡ moments.old)) }
@@ -127,7 +133,7 @@ struct Run<'a, R, D: Disk, W: Watching, G> {
 fn enter_all<D: Disk, W: Watching>(
     office: &Office<D, W>,
     pass: &mut OfficePass<D, W>,
-    outlets: Vec<Outlet>,
+    outlets: Vec<Outlet<D>>,
     seats: &mut Vec<Seat<D, W>>,
 )
     requires ours { pass.old.turnstile ≡ office.now }
@@ -154,7 +160,7 @@ fn run_beside<
 >(
     run: &Run<R, D, W, G>,
     seats: &mut Vec<Seat<D, W>>,
-    inlets: &mut Vec<Inlet>,
+    inlets: &mut Vec<Inlet<D>>,
     moments: &mut MomentInlet<D>,
     page: &mut Page<D>,
     output: &mut K,
@@ -165,6 +171,8 @@ fn run_beside<
     requires few { length (lines_in run.now.lanes.now) ≤ 2 ^ 24 }
     requires page { (page.old.lines ≡ []) × (page.old.bytes.items ≡ []) × (page.old.stopped ≡ None) }
     requires unheard { received moments.old.ring ≡ [] }
+    requires step { IsPaced D.Disk K.allows (K.pieces output.old) page.old }
+    ensures step { IsPaced D.Disk K.allows (K.pieces output.new) page.new }
     ensures run { HaveRun run.now.basis.now run.now.lanes.now seats.old.items seats.new.items }
     ensures moved { IsPermutation (flat_map (λ seat. told_in seat) seats.new.items) page.new.lines }
     ensures sorted { AreInOrder page.new.lines }
@@ -175,7 +183,7 @@ fn run_beside<
     ensures ring { SameConsumer moments.old.ring moments.new.ring }
     ensures counted { length (received moments.new.ring) ≡ accepted_lines page.new.lines }
     ensures shown { IsShowing X.text (K.pieces output.old) (K.pieces output.new) page.new.lines (received moments.new.ring)
-        page.new.latest page.new.bytes.items page.new.stopped }
+        page.new.latest.clock page.new.bytes.items page.new.stopped }
 {
     let Run { rt, alloc, .. } = *run;
     let bell = WriterBell::new();
@@ -190,6 +198,7 @@ fn run_beside<
             requires merged { IsMerged inlets.now page.now.lines }
             requires page { (page.now.lines ≡ []) × (page.now.bytes.items ≡ []) × (page.now.stopped ≡ None) }
             requires unheard { received moments.now.ring ≡ [] }
+            requires step { IsPaced D.Disk K.allows (K.pieces output.now) page.now }
         { merge::<R, X, D, K>(rt, alloc, &bell, count, inlets, moments, page, output) },
         &mut ||
             requires ready { AllZip (IsReadySeat run.now.office.now) run.now.lanes.now seats.now }
@@ -199,7 +208,7 @@ fn run_beside<
 }
 
 // Learns that what was taken from each lane is what it told.
-fn settle<D: Disk, W: Watching>(seats: &mut [Seat<D, W>], inlets: &mut [Inlet])
+fn settle<D: Disk, W: Watching>(seats: &mut [Seat<D, W>], inlets: &mut [Inlet<D>])
     requires spent { AllZip IsSpent seats.old inlets.old }
     ensures seats { AllZip IsSameSeat seats.old seats.new }
     ensures inlets { AllZip HasLooked inlets.old inlets.new }

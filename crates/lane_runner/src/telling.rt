@@ -4,8 +4,9 @@ ghost use Rattle.rtrb.specs.Ring.{IsPair, SameConsumer, known_free, known_items,
 ghost use Rattle.lane_runner.specs.Telling.{MayTellNext};
 ghost use Rattle.lane_runner.specs.inside.Merging.{HasLooked, HasNext, IsNextTurn, LacksNext};
 
-use crate::transcript::TranscriptLine;
+use crate::told_line::ToldLine;
 use memory_requests::ruled_ring_ends;
+use outside_io::Disk;
 use policy_types::NoMemory;
 use rtrb::{Consumer, Producer, Protocol};
 use std::alloc::Global;
@@ -14,24 +15,24 @@ use std::alloc::Global;
 #[derive(Clone, Copy)]
 pub struct Rising;
 
-impl Protocol<TranscriptLine> for Rising {
+impl<D: Disk> Protocol<ToldLine<D>> for Rising {
     ghost allows = { λ before told. MayTellNext before told };
 }
 
 /// A lane's end of its ring.
 #[derive(Drop)]
-pub struct Outlet {
-    pub ring: Producer<TranscriptLine, Global, Rising>,
+pub struct Outlet<D: Disk> {
+    pub ring: Producer<ToldLine<D>, Global, Rising>,
 }
 
 /// The writer's end of a lane's ring, and how many lines have yet to come from it.
 #[derive(Drop)]
-pub struct Inlet {
-    pub ring: Consumer<TranscriptLine, Global, Rising>,
+pub struct Inlet<D: Disk> {
+    pub ring: Consumer<ToldLine<D>, Global, Rising>,
     pub left: usize,
 }
 
-impl Inlet {
+impl<D: Disk> Inlet<D> {
     /// Whether its next line was told, or none is left.
     pub fn has_next(&mut self) -> bool
         ensures looked { HasLooked self.old self.new }
@@ -50,11 +51,11 @@ impl Inlet {
         if self.left == 0 {
             return None;
         }
-        Some(self.ring.peek_known().turn)
+        Some(self.ring.peek_known().turn())
     }
 
     /// Takes the next line.
-    pub fn take(&mut self) -> TranscriptLine
+    pub fn take(&mut self) -> ToldLine<D>
         requires some { 0 < self.old.left }
         requires next { HasNext self.old }
         ensures ring { SameConsumer self.old.ring self.new.ring }
@@ -69,13 +70,13 @@ impl Inlet {
 }
 
 /// A ring with room for so many lines.
-pub fn ring_for(alloc: Global, lines: usize) -> Result<(Outlet, Inlet), NoMemory>
+pub fn ring_for<D: Disk>(alloc: Global, lines: usize) -> Result<(Outlet<D>, Inlet<D>), NoMemory>
     requires few { lines ≤ 2 ^ 24 }
     ensures pair { IfOk result (λ ends. IsPair ends.0.ring ends.1.ring) }
     ensures outlet { IfOk result (λ ends. (sent ends.0.ring ≡ []) × (known_free ends.0.ring ≡ lines)) }
     ensures inlet { IfOk result (λ ends. (received ends.1.ring ≡ []) × (known_items ends.1.ring ≡ []) × (ends.1.left ≡ lines)) }
 {
-    let (outlet, inlet) = ruled_ring_ends::<TranscriptLine, Rising>(alloc, lines)?;
+    let (outlet, inlet) = ruled_ring_ends::<ToldLine<D>, Rising>(alloc, lines)?;
     Ok((
         Outlet { ring: outlet },
         Inlet {

@@ -1,6 +1,7 @@
 // How answered lines are worded, and why their text isn't written whole.
 ghost use Rattle.std.specs.Prelude.{◌≡◌, ◌<◌, List, ℕ, length, IfOk, OnErr};
 ghost use Rattle.lane_runner.specs.declared.transcript.TranscriptLine.{TranscriptLine as ALine};
+ghost use Rattle.lane_runner.specs.Kept.{OnlyTells};
 ghost use Rattle.lane_runner.specs.Telling.{IsLegallyTold};
 
 use crate::transcript::TranscriptLine;
@@ -12,10 +13,12 @@ pub trait Wording {
     /// The text of an answered line.
     ghost text: { ALine → List ℕ };
 
-    /// Makes the text of an answered line. Memory can be wanting only for one that isn't empty.
+    /// Makes the text of an answered line. The text consists of whole lines, and reports no posting as accepted but that of the
+    /// line. Memory can be wanting only for one that isn't empty.
     fn words(alloc: Global, told: &TranscriptLine) -> Result<Vec<u8>, NoMemory>
         requires tellable { IsLegallyTold told.now }
         ensures text { IfOk result (λ words. words.items ≡ text told.now) }
+        ensures only { IfOk result (λ words. OnlyTells words.items told.now) }
         ensures some { OnErr result (0 < length (text told.now)) };
 }
 

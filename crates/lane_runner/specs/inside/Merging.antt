@@ -8,35 +8,35 @@ use Rattle.lane_runner.specs.declared.telling.Inlet.{Inlet}
 use Rattle.lane_runner.specs.declared.transcript.TranscriptLine.{TranscriptLine}
 
 -- if lines are left, the next one is known
-abbrev pub HasNext : Inlet → Type 0
+abbrev pub HasNext : {D : Type 0} → Inlet D → Type 0
 HasNext inlet = 0 < inlet.left → 0 < length (known_items inlet.ring)
 
 -- lines are left, and the next one isn't known
-abbrev pub LacksNext : Inlet → Type 0
+abbrev pub LacksNext : {D : Type 0} → Inlet D → Type 0
 LacksNext inlet = (0 < inlet.left) × (length (known_items inlet.ring) ≡ 0)
 
 -- one of the lanes has lines left, and hasn't reported the next one
-abbrev pub IsWaitedFor : List Inlet → Type 0
+abbrev pub IsWaitedFor : {D : Type 0} → List (Inlet D) → Type 0
 IsWaitedFor [] = ⊥
 IsWaitedFor (inlet ∷ inlets) = LacksNext inlet ⊎ IsWaitedFor inlets
 
 -- more may be known of what comes next
-pub record HasLooked (old new : Inlet) : Type 0 where
+pub record HasLooked {D : Type 0} (old new : Inlet D) : Type 0 where
   pub ring : ConsumerLooked old.ring new.ring
   pub left : new.left ≡ old.left
 
 -- lines were taken
-pub record HasTakenLines (old new : Inlet) : Type 0 where
+pub record HasTakenLines {D : Type 0} (old new : Inlet D) : Type 0 where
   pub ring : SameConsumer old.ring new.ring
   pub count : new.left + length (received new.ring) ≡ old.left + length (received old.ring)
 
 -- the lines that have yet to come
-abbrev pub all_to_come : List Inlet → ℕ
+abbrev pub all_to_come : {D : Type 0} → List (Inlet D) → ℕ
 all_to_come [] = 0
 all_to_come (inlet ∷ inlets) = inlet.left + all_to_come inlets
 
 -- whatever comes next has no turn before this one
-abbrev pub IsBehind : ℕ → Inlet → Type 0
+abbrev pub IsBehind : {D : Type 0} → ℕ → Inlet D → Type 0
 IsBehind turn inlet = 0 < inlet.left → (next : TranscriptLine) (rest : List TranscriptLine)
     → IsPrefix (known_items inlet.ring) (next ∷ rest) → AreBefore (received inlet.ring) next.turn → turn ≤ next.turn
 
@@ -46,15 +46,15 @@ AreInOrder (told ∷ next ∷ lines) = (told.turn ≤ next.turn) × AreInOrder (
 AreInOrder _ = Unit {0}
 
 -- The lines are all that were taken, by rising turns, and nothing that comes has a turn before theirs.
-pub record IsMerged (inlets : List Inlet) (lines : List TranscriptLine) : Type 0 where
-  pub moved : IsPermutation (flat_map (λ (inlet : Inlet). received inlet.ring) inlets) lines
+pub record IsMerged {D : Type 0} (inlets : List (Inlet D)) (lines : List TranscriptLine) : Type 0 where
+  pub moved : IsPermutation (flat_map (λ (inlet : Inlet D). received inlet.ring) inlets) lines
   pub sorted : AreInOrder lines
   pub last : ℕ
   pub upto : AllByRecursion (λ (told : TranscriptLine). told.turn ≤ last) lines
   pub behind : AllByRecursion (IsBehind last) inlets
 
 -- the next line is known, and has this turn
-pub record IsTurnOf (inlet : Inlet) (turn : ℕ) : Type 0 where
+pub record IsTurnOf {D : Type 0} (inlet : Inlet D) (turn : ℕ) : Type 0 where
   pub some : 0 < inlet.left
   pub next : TranscriptLine
   pub rest : List TranscriptLine
@@ -62,19 +62,19 @@ pub record IsTurnOf (inlet : Inlet) (turn : ℕ) : Type 0 where
   pub turn_is : next.turn ≡ turn
 
 -- the turn of the next line, if one is left
-abbrev pub IsNextTurn : Inlet → Option ℕ → Type 0
+abbrev pub IsNextTurn : {D : Type 0} → Inlet D → Option ℕ → Type 0
 IsNextTurn inlet None = inlet.left ≡ 0
 IsNextTurn inlet (Some turn) = IsTurnOf inlet turn
 
 -- the inlet at this place has a next line of this turn
-abbrev pub HasTurnAt : List Inlet → ℕ → ℕ → Type 0
+abbrev pub HasTurnAt : {D : Type 0} → List (Inlet D) → ℕ → ℕ → Type 0
 HasTurnAt [] place turn = ⊥
 HasTurnAt (inlet ∷ inlets) zero turn = IsTurnOf inlet turn
 HasTurnAt (inlet ∷ inlets) (suc place) turn = HasTurnAt inlets place turn
 
 -- the place of the next line of all, if lines are left
-abbrev pub IsNearest : List Inlet → Option Near → Type 0
-IsNearest inlets None = AllByRecursion (λ (inlet : Inlet). inlet.left ≡ 0) inlets
+abbrev pub IsNearest : {D : Type 0} → List (Inlet D) → Option Near → Type 0
+IsNearest inlets None = AllByRecursion (λ (inlet : Inlet _). inlet.left ≡ 0) inlets
 IsNearest inlets (Some near) = HasTurnAt inlets near.place near.turn × AllByRecursion (IsBehind near.turn) inlets
 
 -- the first of all, or the nearest of the others, which has an earlier turn

@@ -59,24 +59,24 @@ pub record HasAnswered {D W : Type 0} (basis : List Dated) (number : ℕ) (lines
 
 -- a lane's pass, and the ring into which it reports its lines
 abbrev pub Seat : Type 0 → Type 0 → Type 0
-Seat D W = Holding (OfficeOpening D W) × Outlet
+Seat D W = Holding (OfficeOpening D W) × Outlet D
 
 -- nothing was reported yet, and the ring has capacity for the lane's lines
-pub record IsRoomFor (lane : Lane) (outlet : Outlet) : Type 0 where
+pub record IsRoomFor {D : Type 0} (lane : Lane) (outlet : Outlet D) : Type 0 where
   pub none : sent outlet.ring ≡ []
   pub enough : length lane.lines ≤ known_free outlet.ring
 
 -- the lane's lines have yet to come
-pub record IsInletFor (lane : Lane) (inlet : Inlet) : Type 0 where
+pub record IsInletFor {D : Type 0} (lane : Lane) (inlet : Inlet D) : Type 0 where
   pub none : received inlet.ring ≡ []
   pub left : inlet.left ≡ length lane.lines
 
 -- the two ends of one ring
-abbrev pub AreEnds : Outlet → Inlet → Type 0
+abbrev pub AreEnds : {D : Type 0} → Outlet D → Inlet D → Type 0
 AreEnds outlet inlet = IsPair outlet.ring inlet.ring
 
 -- the memory for lanes: a ring for each, and capacity for as many passes and callers
-pub record HasLaneRoom {D W : Type 0} (lanes : List Lane) (outlets : Vec Outlet Global) (inlets : Vec Inlet Global)
+pub record HasLaneRoom {D W : Type 0} (lanes : List Lane) (outlets : Vec (Outlet D) Global) (inlets : Vec (Inlet D) Global)
     (seats : Vec (Seat D W) Global) (callers : Vec ℕ Global) : Type 0 where
   pub fitting : AllZip IsRoomFor lanes outlets.items
   pub fed : AllZip IsInletFor lanes inlets.items
@@ -120,7 +120,7 @@ module _ {D W : Type 0} where
     pub facts : PassFacts IsOfficeHistory given
 
   -- passes were entered, one for each outlet
-  pub record HasEntered (old new : Holding (OfficeOpening D W)) (outlets : List Outlet) (seats : List (Seat D W))
+  pub record HasEntered (old new : Holding (OfficeOpening D W)) (outlets : List (Outlet D)) (seats : List (Seat D W))
       : Type 0 where
     pub turnstile : new.turnstile ≡ old.turnstile
     pub opening : new.opening ≡ old.opening
@@ -160,7 +160,7 @@ module _ {D W : Type 0} where
   HaveRun _ _ _ _ = ⊥
 
   -- the ends of the lane's ring
-  abbrev pub IsEndOf : Seat D W → Inlet → Type 0
+  abbrev pub IsEndOf : Seat D W → Inlet D → Type 0
   IsEndOf seat inlet = AreEnds seat.1 inlet
 
   -- no line more was reported
@@ -170,12 +170,12 @@ module _ {D W : Type 0} where
     pub told : told_in new ≡ told_in old
 
   -- as many lines were taken as the lane has reported
-  pub record IsSpent (seat : Seat D W) (inlet : Inlet) : Type 0 where
+  pub record IsSpent (seat : Seat D W) (inlet : Inlet D) : Type 0 where
     pub ends : AreEnds seat.1 inlet
     pub many : length (received inlet.ring) ≡ length (told_in seat)
 
   -- the lines that were taken are those that the lane has reported
-  abbrev pub IsWhole : Seat D W → Inlet → Type 0
+  abbrev pub IsWhole : Seat D W → Inlet D → Type 0
   IsWhole seat inlet = received inlet.ring ≡ told_in seat
 
   -- the passes were taken back

@@ -18,7 +18,8 @@ loop-init g c = record {
       c.requires.page.1 c.requires.page.2);
   ring = ((refl, refl, refl, refl), refl);
   counted = ap length c.requires.none ∙ ap accepted_lines (sym c.requires.page.0);
-  shown = showing_none g.X.Wording.text (g.K.Sink.pieces c.args.output.now) c.args.page.now.latest c.args.page.now.lines
+  step = c.requires.step;
+  shown = showing_none g.X.Wording.text (g.K.Sink.pieces c.args.output.now) c.args.page.now.latest.clock c.args.page.now.lines
       (received c.args.moments.now.ring) c.args.page.now.bytes.items c.args.page.now.stopped c.requires.page.0 c.requires.none c.requires.page.1
       c.requires.page.2;
 }
@@ -41,6 +42,7 @@ loop-preserved g c = record {
     c.merge_next.ensures.ring.1 ∙ c.loop.invariant.ring.1,
   );
   counted = c.merge_next.ensures.counted;
+  step = c.merge_next.ensures.step;
   shown = c.merge_next.ensures.shown _ c.loop.invariant.shown;
 }
 
@@ -56,9 +58,10 @@ returns g c =
           (g.K.Sink.written c.args.output.now) (g.K.Sink.written c.flush.new.output) g.X.Wording.text lines c.flush.new.self.bytes.items
           c.flush.new.self.stopped) (sym same) (c.flush.ensures.put _ _ g.X.Wording.text c.loop.page.lines c.loop.invariant.put);
       flushed = c.flush.ensures.empty;
+      step = c.flush.ensures.step;
       ring = c.loop.invariant.ring;
       counted = c.loop.invariant.counted ∙ ap accepted_lines (sym same);
       shown = subst (λ (lines : List TranscriptLine). IsShowing g.X.Wording.text (g.K.Sink.pieces c.args.output.now) (g.K.Sink.pieces c.flush.new.output)
-          lines (received c.loop.moments.ring) c.flush.new.self.latest c.flush.new.self.bytes.items c.flush.new.self.stopped) (sym same)
+          lines (received c.loop.moments.ring) c.flush.new.self.latest.clock c.flush.new.self.bytes.items c.flush.new.self.stopped) (sym same)
           (c.flush.ensures.shown _ _ _ _ c.loop.invariant.shown);
     }

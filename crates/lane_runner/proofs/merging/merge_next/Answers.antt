@@ -48,6 +48,6 @@ returns-clause-put g c = λ faults first put.
 pub returns-clause-shown : goal.returns-clause-shown
 returns-clause-shown g c = λ first is.
     c.put.ensures.shown first (subst (λ (lines : List TranscriptLine). IsShowing g.X.Wording.text first (g.K.Sink.pieces c.wait_for_next-near.new.output)
-    lines (received c.args.moments.now.ring) c.wait_for_next-near.new.page.latest c.wait_for_next-near.new.page.bytes.items
+    lines (received c.args.moments.now.ring) c.wait_for_next-near.new.page.latest.clock c.wait_for_next-near.new.page.bytes.items
     c.wait_for_next-near.new.page.stopped) (sym c.wait_for_next-near.ensures.lines)
     (c.wait_for_next-near.ensures.shown g.X.Wording.text first c.args.page.now.lines (received c.args.moments.now.ring) is))

@@ -5,7 +5,7 @@ use Rattle.lane_runner.proofs.running.run_beside.Goals as goal
 
 pub count_to_come-count-requires : goal.count_to_come-count-requires
 count_to_come-count-requires g c =
-    subst (λ (inlets : List Inlet). all_to_come inlets ≤ 16777216) (sym c.as_mut_slice-inlets.ensures.value)
+    subst (λ (inlets : List (Inlet _)). all_to_come inlets ≤ 16777216) (sym c.as_mut_slice-inlets.ensures.value)
     (omega (arith, fed_to_come c.args.run.now.lanes.now c.args.inlets.now.items c.requires.fed, c.requires.few))
 
 pub join_mut-requires-after_bounds : goal.join_mut-requires-after_bounds
@@ -19,10 +19,10 @@ join_mut-requires-after_bounds g c κs within =
         (
           omega (arith, count_is, to_come, c.requires.few),
           (
-            subst (λ (inlets : List Inlet). IsMerged inlets c.args.page.now.lines) (sym inlets_are)
+            subst (λ (inlets : List (Inlet _)). IsMerged inlets c.args.page.now.lines) (sym inlets_are)
                 (subst (IsMerged c.args.inlets.now.items) (sym c.requires.page.0)
                 (merged_none c.args.inlets.now.items (fed_none c.args.run.now.lanes.now c.args.inlets.now.items fed))),
-            (c.requires.page, c.requires.unheard),
+            (c.requires.page, (c.requires.unheard, c.requires.step)),
           ),
         ),
       ),

@@ -1,8 +1,10 @@
-use Rattle.lane_runner.proofs.Names.{length, ◌∙◌, arith, IsRoomFor}
+use Rattle.lane_runner.proofs.Names.{◌++◌, List, ℕ, [], length, ap, sym, subst, append-nil, ◌∙◌, arith, taken_bytes, IsRoomFor}
 use Rattle.lane_runner.proofs.SeatSteps.{shares_for_all, turns_for_all, zip_length}
 use Rattle.lane_runner.proofs.RunSteps.{are_ready, has_run, lanes_are, news_many, seats_ours}
 use Rattle.lane_runner.proofs.SettleSteps.{ends_entered}
 use Rattle.lane_runner.proofs.LaneSteps.{answered_as}
+use Rattle.durable_lines.specs.Steps.{IsInStep}
+use Rattle.lane_runner.proofs.PaceSteps.{on_ok, paced_of, step_done}
 use Rattle.lane_runner.proofs.running.run_lanes.Goals as goal
 
 pub enter_all-requires-clause-left : goal.enter_all-requires-clause-left
@@ -57,3 +59,18 @@ returns-clause-wrote g c = c.written-written.ensures.put _ _ _ _ g.X.Wording.tex
 
 pub returns-clause-shown : goal.returns-clause-shown
 returns-clause-shown g c = c.written-written.ensures.shown _ _ _ _ _ c.run_beside.ensures.counted c.run_beside.ensures.shown
+
+pub run_beside-requires-clause-step : goal.run_beside-requires-clause-step
+run_beside-requires-clause-step g c κs within =
+    let taken = taken_bytes (g.K.Sink.pieces c.args.output.now) in
+    let page = c.in_ok-outlets.field-0.page in
+    paced_of g.D.Disk g.K.Sink.allows taken page.bytes.items taken page.stopped page.latest.states
+    (ap (λ (back : List ℕ). taken ++ back) c.in_ok-outlets.ensures.page.1 ∙ append-nil taken)
+    (λ going. subst (λ (states : List _). IsInStep g.D.Disk g.K.Sink.allows taken states) (sym c.in_ok-outlets.ensures.page.3) c.requires.step)
+
+pub returns-clause-step : goal.returns-clause-step
+returns-clause-step g c =
+    let page = c.run_beside.new.page in
+    on_ok c.written-written.result c.written-written.ensures.going (λ going.
+      step_done g.D.Disk g.K.Sink.allows (taken_bytes (g.K.Sink.pieces c.run_beside.new.output)) page.bytes.items page.stopped page.latest.states going
+      (c.run_beside.ensures.flushed going) c.run_beside.ensures.step)

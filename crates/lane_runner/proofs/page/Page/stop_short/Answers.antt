@@ -16,11 +16,12 @@ returns-in-Some-clause-put g c = λ faults first text lines told some put.
 
 pub returns-in-None-clause-shown : goal.returns-in-None-clause-shown
 returns-in-None-clause-shown g c = λ text first lines moments told some enough is.
-    showing_lacking text first (g.K.Sink.pieces c.flush.new.output) lines moments c.flush.new.self.latest c.flush.new.self.bytes.items
+    showing_lacking text first (g.K.Sink.pieces c.flush.new.output) lines moments c.flush.new.self.latest.clock c.flush.new.self.bytes.items
     c.flush.new.self.bytes.items c.flush.new.self.stopped (Some (NoMemory a_refusal)) (NoMemory a_refusal) told c.in-None.is refl some enough
     (c.flush.ensures.shown text first lines moments is)
 
 pub returns-in-Some-clause-shown : goal.returns-in-Some-clause-shown
 returns-in-Some-clause-shown g c = λ text first lines moments told some enough is.
-    showing_past text first (g.K.Sink.pieces c.flush.new.output) lines moments c.flush.new.self.latest c.flush.new.self.bytes.items
+    showing_past text first (g.K.Sink.pieces c.flush.new.output) lines moments c.flush.new.self.latest.clock c.flush.new.self.bytes.items
     c.flush.new.self.bytes.items c.flush.new.self.stopped told (ap is_some c.in-Some.is) enough (c.flush.ensures.shown text first lines moments is)
+
