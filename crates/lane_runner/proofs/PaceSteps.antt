@@ -89,18 +89,21 @@ module _ {D : Type 0} (g : Ghosts D) where
       → IsKeptOutcome g states line outcome → IsKeptBy g states k named
   kept_named states line outcome named k tells kept =
       let here : IsKeptBy g states k tells.command =
-      subst (λ (o : Outcome). IsKeptOutcome g states (Post tells.command) o) tells.accepted (subst (λ (l : Line). IsKeptOutcome g states l outcome) tells.is kept) in
-      (here.0, here.1, λ honest image left.
-        let opens = here.2 honest image left in
-        record {
-          earlier = opens.earlier;
-          command = opens.command;
-          later = opens.later;
-          opens = opens.opens;
-          place = opens.place;
-          kind = opens.kind ∙ tells.kind;
-          id = opens.id ∙ tells.id;
-        })
+      subst (λ (o : Outcome). IsKeptOutcome g states (Post tells.command) o) tells.accepted (subst (λ (l : Line). IsKeptOutcome g states l outcome) tells.is kept) in (
+        here.0,
+        here.1,
+        λ honest image left.
+            let opens = here.2 honest image left in
+            record {
+              earlier = opens.earlier;
+              command = opens.command;
+              later = opens.later;
+              opens = opens.opens;
+              place = opens.place;
+              kind = opens.kind ∙ tells.kind;
+              id = opens.id ∙ tells.id;
+            },
+      )
 
   module _ (allows : List ℕ → List D → Type 0) where
     -- the text of one more line

@@ -72,5 +72,5 @@ pub returns-clause-step : goal.returns-clause-step
 returns-clause-step g c =
     let page = c.run_beside.new.page in
     on_ok c.written-written.result c.written-written.ensures.going (λ going.
-      step_done g.D.Disk g.K.Sink.allows (taken_bytes (g.K.Sink.pieces c.run_beside.new.output)) page.bytes.items page.stopped page.latest.states going
-      (c.run_beside.ensures.flushed going) c.run_beside.ensures.step)
+    step_done g.D.Disk g.K.Sink.allows (taken_bytes (g.K.Sink.pieces c.run_beside.new.output)) page.bytes.items page.stopped page.latest.states going
+    (c.run_beside.ensures.flushed going) c.run_beside.ensures.step)

@@ -24,4 +24,3 @@ pub returns-in-Some-clause-shown : goal.returns-in-Some-clause-shown
 returns-in-Some-clause-shown g c = λ text first lines moments told some enough is.
     showing_past text first (g.K.Sink.pieces c.flush.new.output) lines moments c.flush.new.self.latest.clock c.flush.new.self.bytes.items
     c.flush.new.self.bytes.items c.flush.new.self.stopped told (ap is_some c.in-Some.is) enough (c.flush.ensures.shown text first lines moments is)
-
