@@ -106,7 +106,8 @@ impl<D: Disk> Page<D> {
             return;
         }
         let moment = moments.next(rt);
-        self.latest = self.latest.later(&moment.later(since));
+        let moment = moment.later(since);
+        self.latest = self.latest.later(&moment);
     }
 
     // Puts the text of an answered line behind the text so far.

@@ -2,4 +2,4 @@ use Rattle.std.proofs.Common.{length}
 use Rattle.lane_runner.proofs.merging.+have_next.Given as goal
 
 abbrev pub decreases-have_next : goal.decreases-have_next
-decreases-have_next l = length l.inlets.now
+decreases-have_next g l = length l.inlets.now

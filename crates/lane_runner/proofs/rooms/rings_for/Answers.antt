@@ -4,7 +4,7 @@ use Rattle.lane_runner.proofs.SeatSteps.{lines_of_one, zip_next_is}
 use Rattle.lane_runner.proofs.rooms.rings_for.Goals as goal
 
 pub ring_of-requires : goal.ring_of-requires
-ring_of-requires c =
+ring_of-requires g c =
     omega (
       arith,
       lines_of_one c.args.lanes.now c.loop-lane.lane-index c.lane-item.result c.loop-lane-test.true,
@@ -13,7 +13,7 @@ ring_of-requires c =
     )
 
 pub loop-lane-preserved : goal.loop-lane-preserved
-loop-lane-preserved c = record {
+loop-lane-preserved g c = record {
   outlets_len = omega (arith, c.push_reserved.ensures.len, c.loop-lane.invariant.outlets_len);
   inlets_len = omega (arith, c.push_reserved-in-loop-lane.ensures.len, c.loop-lane.invariant.inlets_len);
   outlets_enough = subst (λ n. length c.args.lanes.now ≤ n) (sym c.push_reserved.ensures.capacity) c.loop-lane.invariant.outlets_enough;

@@ -2,7 +2,7 @@ use Rattle.lane_runner.proofs.Names.{◌≡◌, ◌≤◌, length, take, vec_len
 use Rattle.lane_runner.proofs.rooms.rings_for.Given as goal
 
 abbrev pub invariant-loop-lane : goal.invariant-loop-lane
-invariant-loop-lane l = record {
+invariant-loop-lane g l = record {
   outlets_len : vec_len l.outlets ≡ l.lane-index;
   inlets_len : vec_len l.inlets ≡ l.lane-index;
   outlets_enough : length l.lanes ≤ vec_capacity l.outlets;

@@ -1,8 +1,8 @@
-use Rattle.lane_runner.proofs.Names.{◌++◌, List, ℕ, Some, refl, ap, sym, subst, rules, taken_bytes, WriteFault}
+use Rattle.lane_runner.proofs.Names.{◌++◌, List, ℕ, Some, refl, ap, sym, ◌∙◌, subst, rules, taken_bytes, WriteFault}
 use Rattle.lane_runner.proofs.GatherSteps.{put_failed, put_out}
 use Rattle.lane_runner.proofs.ShowSteps.{showing_failed, showing_out}
 use Rattle.durable_lines.specs.Steps.{IsInStep}
-use Rattle.lane_runner.proofs.PaceSteps.{allowed, paced_out, step_of}
+use Rattle.lane_runner.proofs.PaceSteps.{allowed, paced_out, step_of, taken_after}
 use Rattle.lane_runner.proofs.page.Page.flush.Goals as goal
 
 pub returns-in-Ok-clause-put : goal.returns-in-Ok-clause-put
@@ -43,3 +43,9 @@ returns-in-Ok-clause-step g c =
     c.args.self.now.latest.states) (sym c.as_slice.ensures.value)
     (step_of g.D.Disk g.K.Sink.allows (taken_bytes (g.K.Sink.pieces c.args.output.now)) c.args.self.now.bytes.items c.args.self.now.stopped
     c.args.self.now.latest.states going c.requires.step))
+
+pub returns-in-Ok-clause-taken : goal.returns-in-Ok-clause-taken
+returns-in-Ok-clause-taken g c = λ going still.
+    taken_after (g.K.Sink.pieces c.args.output.now) (g.K.Sink.pieces c.write_all_since.new.sink) c.args.self.now.latest.clock c.as_slice.result.now
+    c.in-Ok.field-0 c.in-Ok.ensures.pieces
+    ∙ ap (λ (back : List ℕ). taken_bytes (g.K.Sink.pieces c.args.output.now) ++ back) c.as_slice.ensures.value

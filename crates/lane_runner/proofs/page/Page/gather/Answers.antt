@@ -39,7 +39,7 @@ pass_on-requires-clause-more g c = λ going.
     let same : c.keep.new.self.bytes.items ≡ c.args.self.now.bytes.items = search rules in
     let taken : taken_bytes (g.K.Sink.pieces c.flush.new.output) ++ c.args.words.now ≡ before ++ c.args.self.now.bytes.items ++ c.args.words.now =
     ap (λ (front : List ℕ). front ++ c.args.words.now) (c.flush.ensures.taken (c.keep.ensures.stopped ∙ c.requires.going) going
-    ∙ ap (λ (back : List ℕ). before ++ back) same) ∙ append_assoc before c.args.self.now.bytes.items c.args.words.now in
+    ∙ ap (λ (back : List ℕ). before ++ back) same) in
     subst (λ (bytes : List ℕ). IsInStep g.D.Disk g.K.Sink.allows bytes c.flush.new.self.latest.states) (sym taken)
     (subst (λ (latest : DiskTime _). IsInStep g.D.Disk g.K.Sink.allows (before ++ c.args.self.now.bytes.items ++ c.args.words.now) latest.states)
     (sym (c.flush.ensures.latest ∙ c.keep.ensures.latest)) c.requires.more)
@@ -49,6 +49,6 @@ returns-then-keep-clause-step g c =
     let before = taken_bytes (g.K.Sink.pieces c.args.output.now) in
     let kept : c.keep.new.self.bytes.items ≡ c.args.self.now.bytes.items ++ c.args.words.now = search rules in
     paced_of g.D.Disk g.K.Sink.allows before c.keep.new.self.bytes.items (before ++ c.args.self.now.bytes.items ++ c.args.words.now)
-    c.keep.new.self.stopped c.keep.new.self.latest.states (ap (λ (back : List ℕ). before ++ back) kept)
+    c.keep.new.self.stopped c.keep.new.self.latest.states (ap (λ (back : List ℕ). before ++ back) kept ∙ sym (append_assoc before c.args.self.now.bytes.items c.args.words.now))
     (λ going. subst (λ (latest : DiskTime _). IsInStep g.D.Disk g.K.Sink.allows (before ++ c.args.self.now.bytes.items ++ c.args.words.now) latest.states)
     (sym c.keep.ensures.latest) c.requires.more)

@@ -1,6 +1,5 @@
-use Rattle.lane_runner.proofs.Names.{◌++◌, List, ℕ, ap, sym, ◌∙◌, subst, append_assoc, rules, taken_bytes}
+use Rattle.lane_runner.proofs.Names.{◌++◌, sym, ◌∙◌, rules, taken_bytes}
 use Rattle.lane_runner.proofs.ShowSteps.{showing_past}
-use Rattle.durable_lines.specs.Steps.{IsInStep}
 use Rattle.lane_runner.proofs.PaceSteps.{step_of, step_told}
 use Rattle.lane_runner.proofs.page.Page.put_text.Goals as goal
 
@@ -20,8 +19,6 @@ returns-then-is_some-clause-shown g c = λ first lines moments enough is.
 pub gather-requires-clause-more : goal.gather-requires-clause-more
 gather-requires-clause-more g c =
     let before = taken_bytes (g.K.Sink.pieces c.args.output.now) in
-    subst (λ (bytes : List ℕ). IsInStep g.D.Disk g.K.Sink.allows bytes c.args.self.now.latest.states)
-    (append_assoc before c.args.self.now.bytes.items c.as_slice.result.now)
-    (step_told g.D.Disk g.K.Sink.allows (before ++ c.args.self.now.bytes.items) c.as_slice.result.now c.args.self.now.latest.states c.args.told.now
+    step_told g.D.Disk g.K.Sink.allows (before ++ c.args.self.now.bytes.items) c.as_slice.result.now c.args.self.now.latest.states c.args.told.now
     (step_of g.D.Disk g.K.Sink.allows before c.args.self.now.bytes.items c.args.self.now.stopped c.args.self.now.latest.states (search rules) c.requires.step)
-    (search rules) c.requires.kept)
+    (search rules) c.requires.kept
