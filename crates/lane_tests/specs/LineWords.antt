@@ -1,5 +1,5 @@
--- The bytes as which tests have answered lines written: the lane, the turn, the command, and the outcome
-use Rattle.std.specs.Prelude.{ℕ, ◌==◌, ◌&&◌, Bool, true, false, List, [], ◌∷◌, ◌++◌, length, replicate}
+-- The bytes as which tests have answered lines written: the lane, the turn, the command, and the outcome, in letters
+use Rattle.std.specs.Prelude.{ℕ, ◌+◌, ◌/◌, ◌%◌, ◌==◌, ◌&&◌, Bool, true, false, List, [], ◌∷◌, ◌++◌, length, replicate}
 use Rattle.std.specs.Int.{w32, w64, to_be_bytes}
 use Rattle.std.specs.List.{list_all}
 use Rattle.policy_types.specs.declared.entry.PinRefusal.{PinRefusal}
@@ -56,5 +56,13 @@ abbrev pub asked_words : Line → List ℕ
 asked_words (Post command) = spelling_of command
 asked_words _ = replicate 64 0
 
+abbrev pub line_bytes : TranscriptLine → List ℕ
+line_bytes told = told.lane ∷ (to_be_bytes w64 told.turn ++ asked_words told.line ++ outcome_words told.outcome)
+
+-- each byte as two letters, from A to P: so none of them ends a line, and no line of them reports an accepted posting
+abbrev pub letters_of : List ℕ → List ℕ
+letters_of [] = []
+letters_of (byte ∷ bytes) = (65 + byte / 16) ∷ (65 + byte % 16) ∷ letters_of bytes
+
 abbrev pub line_words : TranscriptLine → List ℕ
-line_words told = told.lane ∷ (to_be_bytes w64 told.turn ++ asked_words told.line ++ outcome_words told.outcome)
+line_words told = letters_of (line_bytes told) ++ 10 ∷ []

@@ -1,8 +1,8 @@
 // The outcomes of lanes' lines, as tests have them written, and as they read them.
-ghost use Rattle.std.specs.Prelude.{◌≡◌, ◌++◌, OnOk, length};
+ghost use Rattle.std.specs.Prelude.{◌≡◌, ◌≤◌, ◌++◌, IfOk, OnOk, length};
 ghost use Rattle.std.specs.List.{list_all};
 ghost use Rattle.lane_runner.specs.Lanes.{IsRightLine};
-ghost use Rattle.lane_tests.specs.LineWords.{answer_words, asked_words, is_year_row, is_year_worth, numbered, outcome_words, refused_words, valued_words};
+ghost use Rattle.lane_tests.specs.LineWords.{answer_words, asked_words, is_year_row, is_year_worth, letters_of, line_bytes, numbered, outcome_words, refused_words, valued_words};
 
 use lane_runner::{Outcome, TranscriptLine, Wording};
 use memory_requests::{extend, with_room};
@@ -33,7 +33,7 @@ pub struct Written {
     pub told: Told,
 }
 
-/// The written forms of answered lines, 86 bytes each.
+/// The written forms of answered lines: 86 bytes each, two letters a byte, and a line feed.
 pub struct LineWords;
 
 impl Wording for LineWords {
@@ -42,16 +42,39 @@ impl Wording for LineWords {
     ghost text = { line_words };
 
     fn words(alloc: Global, told: &TranscriptLine) -> Result<Vec<u8>, NoMemory> {
+        let bytes = bytes_of_line(alloc, told)?;
         let mut words = with_room(alloc, LONG)?;
-        put(&mut words, &[told.lane])?;
-        put(&mut words, &told.turn.to_be_bytes())?;
-        put(&mut words, &words_of_line(&told.line))?;
-        put(&mut words, &words_of_outcome(&told.outcome))?;
+        put_letters(&mut words, bytes.as_slice())?;
+        put(&mut words, b"\n")?;
         Ok(words)
     }
 }
 
-const LONG: usize = 86;
+const BYTES: usize = 86;
+
+const LONG: usize = 2 * BYTES + 1;
+
+fn bytes_of_line(alloc: Global, told: &TranscriptLine) -> Result<Vec<u8>, NoMemory>
+    requires { IsRightLine told.now.line }
+    ensures { IfOk result (λ bytes. bytes.items ≡ line_bytes told.now) }
+{
+    let mut bytes = with_room(alloc, BYTES)?;
+    put(&mut bytes, &[told.lane])?;
+    put(&mut bytes, &told.turn.to_be_bytes())?;
+    put(&mut bytes, &words_of_line(&told.line))?;
+    put(&mut bytes, &words_of_outcome(&told.outcome))?;
+    Ok(bytes)
+}
+
+// Each byte as two letters, from A to P.
+fn put_letters(words: &mut Vec<u8>, bytes: &[u8]) -> Result<(), NoMemory>
+    ensures { OnOk result (words.new.items ≡ words.old.items ++ letters_of bytes.now) }
+{
+    for byte in bytes {
+        put(words, &[65 + byte / 16, 65 + byte % 16])?;
+    }
+    Ok(())
+}
 
 fn put(words: &mut Vec<u8>, more: &[u8]) -> Result<(), NoMemory>
     ensures { OnOk result (words.new.items ≡ words.old.items ++ more.now) }
@@ -149,9 +172,27 @@ pub fn read_lines(alloc: Global, words: &[u8]) -> Option<Vec<Written>> {
     let mut lines = Vec::new(alloc);
     for line in 0..words.len() / LONG {
         let at = line * LONG;
-        lines.push(read_line(&words[at..at + LONG])).ok()?;
+        let bytes = bytes_in(&words[at..at + LONG]);
+        lines.push(read_line(&bytes)).ok()?;
     }
     Some(lines)
+}
+
+// The bytes of a written form.
+fn bytes_in(words: &[u8]) -> [u8; 86]
+    requires { length words.now ≡ 173 }
+{
+    let mut bytes = [0; BYTES];
+    for place in 0..BYTES {
+        bytes[place] = half(words[2 * place]) * 16 + half(words[2 * place + 1]);
+    }
+    bytes
+}
+
+fn half(letter: u8) -> u8
+    ensures { result ≤ 15 }
+{
+    letter.saturating_sub(65) % 16
 }
 
 fn read_line(words: &[u8]) -> Written
