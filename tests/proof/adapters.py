@@ -53,7 +53,7 @@ CHANGES = {
     },
     "lane_runner/src/answering.rt": {
         "    outlet.ring.push_reserved(told);\n    bell.ring();":
-            "    let rings = told.lane != 8;\n    outlet.ring.push_reserved(told);\n    if rings { bell.ring(); }",
+            "    let rings = told.line.lane != 8;\n    outlet.ring.push_reserved(told);\n    if rings { bell.ring(); }",
     },
 }
 ASKED = re.compile(r"(files|\(&rt\))\?(\w+)")

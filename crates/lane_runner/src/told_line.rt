@@ -7,7 +7,7 @@ use std::marker::Model;
 /// posting: every crash in that state leaves it in the journal.
 #[derive(Drop)]
 pub struct ToldLine<D: Disk> {
-    line: TranscriptLine,
+    pub(crate) line: TranscriptLine,
     since: Moment<D>,
 }
 
