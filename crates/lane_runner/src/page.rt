@@ -32,7 +32,8 @@ pub struct Page<D: Disk> {
     pub lines: TranscriptLines,
     pub bytes: Vec<u8>,
     pub stopped: Option<Unwritten>,
-    /// The latest of the moments since which accepted lines are safe, made from all of their states. What is written is written by it.
+    /// The latest of the moments since which accepted lines are safe. It has the states of them all, and what is written is
+    /// written by it.
     pub latest: Moment<D>,
 }
 

@@ -37,14 +37,14 @@ use watcher_set::Watching;
 pub struct Ran<D: Disk> {
     pub transcript: Transcript,
     pub written: Result<(), Unwritten>,
-    /// The latest of the moments since which the accepted lines are safe, made from all of their states.
+    /// The latest of the moments since which the accepted lines are safe. It has the states of them all.
     pub latest: Moment<D>,
 }
 
 /// Runs lanes at the same time, each by a caller of its own, gives their lines by rising turns, and writes the text of each
-/// line as soon as none can come before it. A line that reports an accepted posting is handed to the output only by states of
-/// the disk of which one keeps the posting: the output need take nothing else. Where the output fails, or memory is wanting for a text, no more is written, and
-/// the lanes go on.
+/// line as soon as none can come before it. A line that reports an accepted posting is handed to the output by a moment one of
+/// whose states keeps the posting, so the output may refuse all else. Where the output fails, or memory is wanting for a text,
+/// no more is written, and the lanes go on.
 ///
 /// The memory for the lines is taken before the first turn: where it is wanting, no turn is taken and the pass stays. The
 /// gate is called with a lane's number and 0 before each of its lines, and in a valuation with `k` after its `k`-th batch.

@@ -3,8 +3,8 @@ use crate::transcript::TranscriptLine;
 use outside_io::{Disk, Moment};
 use std::marker::Model;
 
-/// An answered line, of which contracts see the line alone. If it reports an accepted posting, a state of the moment keeps the
-/// posting: every crash in that state leaves it in the journal.
+/// An answered line, and a moment by which it may be written. Contracts see the line alone. If it reports an accepted posting, a
+/// state of the moment keeps the posting: every crash in that state leaves it in the journal.
 #[derive(Drop)]
 pub struct ToldLine<D: Disk> {
     pub(crate) line: TranscriptLine,

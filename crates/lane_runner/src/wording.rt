@@ -13,8 +13,8 @@ pub trait Wording {
     /// The text of an answered line.
     ghost text: { ALine → List ℕ };
 
-    /// Makes the text of an answered line. The text consists of whole lines, and reports no posting as accepted but that of the
-    /// line. Memory can be wanting only for one that isn't empty.
+    /// Makes the text of an answered line. It consists of whole lines, and the only posting that it may report as accepted is
+    /// the line's own. Memory can be wanting only for one that isn't empty.
     fn words(alloc: Global, told: &TranscriptLine) -> Result<Vec<u8>, NoMemory>
         requires tellable { IsLegallyTold told.now }
         ensures text { IfOk result (λ words. words.items ≡ text told.now) }
