@@ -4,10 +4,10 @@ use Rattle.lane_runner.proofs.PaceSteps.{line_later, line_other}
 use Rattle.lane_runner.proofs.ShowSteps.{showing_moment}
 use Rattle.lane_runner.proofs.page.Page.await_moment.Goals as goal
 
-clock_of : {D : Type 0} → DiskTime D → ℕ
+abbrev clock_of : {D : Type 0} → DiskTime D → ℕ
 clock_of time = time.clock
 
-states_of : {D : Type 0} → DiskTime D → List D
+abbrev states_of : {D : Type 0} → DiskTime D → List D
 states_of time = time.states
 
 pub returns-clause-shown : goal.returns-clause-shown
