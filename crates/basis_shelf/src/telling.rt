@@ -1,5 +1,6 @@
 // The line of a bad file.
 ghost use Rattle.std.specs.Prelude.{◌≡◌, ◌++◌, IfOk, OnOk};
+ghost use Rattle.basis_book.specs.Name.{IsName};
 ghost use Rattle.basis_shelf.specs.Lines as spec;
 
 use crate::fault::{BadBasis, BasisWord};
@@ -9,7 +10,8 @@ use text_lines::{LineWriter, Text};
 
 /// The line of a bad file: `badbasis`, its name, the place and the word, with a line feed.
 pub fn bad_basis_line(alloc: Global, bad: &BadBasis) -> Result<Text, NoMemory>
-    ensures { IfOk result (λ text. text ≡ spec.bad_basis_text bad.now) }
+    ensures text { IfOk result (λ text. text ≡ spec.bad_basis_text bad.now) }
+    ensures named { OnOk result (IsName bad.now.name) }
 {
     let mut lines = LineWriter::new(alloc);
     write_bad_basis(&mut lines, bad)?;
@@ -18,7 +20,8 @@ pub fn bad_basis_line(alloc: Global, bad: &BadBasis) -> Result<Text, NoMemory>
 
 #[tactic(auto, unfolding(crate::specs::Lines::bad_basis_text))]
 fn write_bad_basis(lines: &mut LineWriter, bad: &BadBasis) -> Result<(), NoMemory>
-    ensures { OnOk result (lines.new ≡ lines.old ++ spec.bad_basis_text bad.now) }
+    ensures text { OnOk result (lines.new ≡ lines.old ++ spec.bad_basis_text bad.now) }
+    ensures named { OnOk result (IsName bad.now.name) }
 {
     lines.first("badbasis")?;
     lines.word(bad.name.text())?;

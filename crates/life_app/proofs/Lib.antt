@@ -18,6 +18,7 @@ pub mod ShortLaws
 pub mod RunLaws
 pub mod LeftLaws
 pub mod ProgramSteps
+pub mod PermitSteps
 pub mod ReasonSteps
 pub mod BooksSteps
 pub mod KeptRunLaws

@@ -16,3 +16,4 @@ pub mod KeptRuns
 pub mod Worked
 pub mod WorkedRun
 pub mod inside
+pub mod Permits

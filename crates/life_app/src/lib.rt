@@ -6,6 +6,7 @@ mod kept;
 mod laws;
 mod legality;
 mod modes;
+mod permits;
 mod program;
 mod promise;
 mod values;
@@ -19,6 +20,7 @@ pub use laws::{
     scripts_are_read_or_refused,
 };
 pub use legality::answered_legally;
+pub use permits::asks_to_run;
 pub use program::{Ended, life};
 pub use promise::{a_short_transcript_has_one_end, headline, promised_of_one_history};
 pub use values::values_enclose;

@@ -1,6 +1,10 @@
 // The arguments are obeyed over the journal's disk and a second one, or none.
 ghost use Rattle.std.specs.Prelude.{◌≡◌, ◌<◌, ℕ, [], Some, map, string_bytes};
 ghost use Rattle.life_app.specs.Names.{between, input_between, shelf_between, ReadFault, EndsStateKept, disks_of};
+ghost use Rattle.durable_lines.specs.Steps.{TakesAll};
+ghost use Rattle.life_app.specs.Permits.{Permits};
+ghost use Rattle.outside_io.specs.Streams.{taken_bytes};
+ghost use Rattle.program_endings.specs.Quiet.{MaySayQuiet};
 ghost use Rattle.life_app.specs.inside.Obeying.{Does, EndsBooks, EndsSave};
 ghost use Rattle.life_app.specs.inside.Unasked.{SaysNoMode};
 
@@ -41,6 +45,7 @@ pub(crate) fn obey<
     gate: &G,
 ) -> FinishedKept<D, Option<E>>
     requires told { (before : ℕ) → W.told watchers before [] }
+    requires permits { Permits D.Disk K.allows (taken_bytes (K.pieces output.old)) (map string_bytes words.now) }
     ensures does { Does D.Disk E.Disk disk result.disk second result.second (map string_bytes words.now) (W.handed watchers)
         (input_between S.faults S.left S.given S.ended input.old input.new)
         (between K.faults K.written K.pieces output.old output.new)
@@ -120,6 +125,7 @@ fn state_over<K: Sink, D: Disk, E: Disk>(
     disk: D,
     second: Option<E>,
 ) -> FinishedKept<D, Option<E>>
+    requires all { TakesAll K.allows }
     ensures { EndsBooks D.Disk E.Disk disk result.disk second result.second
         (between K.faults K.written K.pieces output.old output.new) result.ending }
 {
@@ -140,6 +146,7 @@ fn state_by<K: Sink, D: Disk, E: Disk, L: Ledger>(
     second: E,
     blank: Blank,
 ) -> FinishedKept<D, E>
+    requires all { TakesAll K.allows }
     requires name { blank.name ≡ L.name }
     requires parts { blank.parts ≡ L.parts }
     requires some { 0 < L.parts }
@@ -157,6 +164,7 @@ fn checkpoint_over<K: Sink, D: Disk, E: Disk>(
     disk: D,
     second: Option<E>,
 ) -> FinishedKept<D, Option<E>>
+    requires all { TakesAll K.allows }
     ensures { EndsSave D.Disk E.Disk disk result.disk second result.second
         (between K.faults K.written K.pieces output.old output.new) result.ending }
 {
@@ -197,7 +205,9 @@ fn over_both<D, E>(finished: FinishedKept<D, E>) -> FinishedKept<D, Option<E>>
 }
 
 // Reports why the arguments aren't obeyed.
+#[tactic(auto, using(crate::proofs::PermitSteps::quiet_usage))]
 fn refuse_words<K: Sink>(fault: WordsFault, output: &mut K) -> Ending
+    requires quiet { MaySayQuiet K.allows (K.pieces output.old) }
     ensures { SaysNoMode fault (between K.faults K.written K.pieces output.old output.new) result }
 {
     match fault {

@@ -4,7 +4,9 @@ ghost use Rattle.life_app.specs.Names.{AllByRecursion, OpensToNone, status_of, b
 ghost use Rattle.life_app.specs.Due.{IsDueEnding};
 ghost use Rattle.life_app.specs.Needs.{Without, filing_between};
 ghost use Rattle.life_app.specs.Obeys.{Obeys};
+ghost use Rattle.life_app.specs.Permits.{Permits};
 ghost use Rattle.life_app.specs.Reasons.{HasReason};
+ghost use Rattle.outside_io.specs.Streams.{taken_bytes};
 
 use crate::modes::obey;
 use outside_io::{Disk, Gate, Shelf, Sink, Source};
@@ -50,6 +52,9 @@ pub fn life<
 ) -> Ended<D>
     requires few { length watchers.items ≤ most_watchers }
     requires fresh { AllByRecursion (λ b. noted b ≡ []) watchers.items }
+    // The output takes what it is given. Of a run of a script that is only what is justified, at each step, also if the run is killed
+    // or never returns.
+    requires permits { Permits D.Disk K.allows (taken_bytes (K.pieces output.old)) (map string_bytes words.now) }
     ensures obeys { Obeys D.Disk D.Disk disk result.disk None None (map string_bytes words.now)
         (map (λ b. record { stops = stops b; number = number b }) watchers.items) (input_between S.faults S.left S.given S.ended input.old input.new)
         (between K.faults K.written K.pieces output.old output.new)

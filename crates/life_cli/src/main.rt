@@ -3,12 +3,15 @@
 
 mod devices;
 mod named_files;
+mod permits;
 mod shipped;
 mod words;
 mod worked;
 
 use devices::{OutputOf, devices_of};
-use outside_io::{AnyFile, write_all};
+use life_app::asks_to_run;
+use outside_io::{AnyFile, Anything, write_all};
+use permits::Justified;
 use shipped::{leave, run_shipped};
 use std::alloc::AllocError;
 use std::env;
@@ -23,17 +26,24 @@ use words::told_words;
 fn main(rt: HostRuntime) -> ExitCode {
     let held = hold_descriptors(&rt);
     let code = match words_of(&rt) {
-        Ok(words) => {
-            let devices = devices_of(rt, AnyFile, AnyFile);
-            leave(run_shipped(&rt, rt.alloc(), &words, devices))
-        }
+        Ok(words) => obey(rt, &words),
         Err(AllocError) => {
-            let _ = write_all(&mut OutputOf::<AnyFile>::new(rt.stdout()), b"nomemory\n");
+            let _ = write_all(&mut OutputOf::<AnyFile, Anything>::new(rt.stdout()), b"nomemory\n");
             ExitCode::from(9)
         }
     };
     drop(held);
     code
+}
+
+// Of a run of a script, standard output takes only what is justified.
+fn obey(rt: HostRuntime, words: &[String]) -> ExitCode {
+    if asks_to_run(words) {
+        let devices = devices_of::<AnyFile, AnyFile, Justified>(rt, AnyFile, AnyFile);
+        return leave(run_shipped(&rt, rt.alloc(), words, devices));
+    }
+    let devices = devices_of::<AnyFile, AnyFile, Anything>(rt, AnyFile, AnyFile);
+    leave(run_shipped(&rt, rt.alloc(), words, devices))
 }
 
 // If the program is started with a closed input, output or error, the next file that is opened would take its

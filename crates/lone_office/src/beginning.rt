@@ -5,6 +5,7 @@ ghost use Rattle.moment_ring.specs.Ends.{HasRoomFor, told};
 ghost use Rattle.policy_types.specs.Limits.{most_commands};
 ghost use Rattle.turn_lock.specs.Passes.{PassFacts};
 ghost use Rattle.shared_office.specs.Offices.{IsOfficeHistory};
+ghost use Rattle.program_endings.specs.Quiet.{MaySayQuiet};
 ghost use Rattle.program_endings.specs.Writing.{between, shelf_between};
 ghost use Rattle.program_endings.specs.declared.ending.Ending.TheVariants.{ReadFault};
 ghost use Rattle.lone_office.specs.Beginning.{HasFirstPass, HasNotBegun, IsAskedBasis, IsUnopened};
@@ -38,6 +39,7 @@ pub fn begin<H: Shelf, K: Sink, D: Disk, W: Watching>(
     watchers: W,
     outlet: MomentOutlet<D>,
 ) -> Result<Begun<D, W>, Finished<D>>
+    requires quiet { MaySayQuiet K.allows (K.pieces output.old) }
     requires told { (before : ℕ) → W.told watchers before [] }
     requires untold { told outlet.ring ≡ [] }
     requires room { HasRoomFor most_commands outlet.ring }
@@ -87,6 +89,7 @@ fn open<K: Sink, D: Disk, W: Watching>(
     watchers: W,
     outlet: MomentOutlet<D>,
 ) -> Result<Begun<D, W>, Finished<D>>
+    requires quiet { MaySayQuiet K.allows (K.pieces output.old) }
     requires told { (before : ℕ) → W.told watchers before [] }
     requires untold { told outlet.ring ≡ [] }
     requires room { HasRoomFor most_commands outlet.ring }

@@ -4,6 +4,7 @@ pub mod ListSteps
 mod PartSteps
 pub mod TurnSteps
 pub mod QuietTurns
+pub mod QuietTexts
 pub mod FaultSteps
 pub mod ReadOnlySteps
 pub mod BasisSteps

@@ -5,6 +5,7 @@ pub mod Replies
 pub mod Refusals
 pub mod WithoutBasis
 pub mod Texts
+pub mod Quiet
 pub mod Holding
 pub mod Blocks
 pub mod Worked

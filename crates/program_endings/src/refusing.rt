@@ -2,6 +2,7 @@
 ghost use Rattle.std.specs.Prelude.{◌≡◌, ◌≤◌, ◌++◌, [], ◌∷◌, IfOk, codes, decimal};
 ghost use Rattle.basis_shelf.specs.declared.fault.NoBasis.TheVariants.{Bad, ReadFault as ShelfFailed};
 ghost use Rattle.office_state.specs.declared.faults.StartCause.TheVariants.{BadRecord};
+ghost use Rattle.program_endings.specs.Quiet.{MaySayQuiet};
 ghost use Rattle.program_endings.specs.Refusals.{SaysUnopened};
 ghost use Rattle.program_endings.specs.WithoutBasis.{SaysNoBasis};
 ghost use Rattle.program_endings.specs.Writing.{between};
@@ -17,7 +18,9 @@ use std::alloc::Global;
 use text_lines::{LineWriter, Text};
 
 /// Says why no office was opened.
+#[tactic(auto, using(crate::proofs::QuietTexts::quiet_diskfault, crate::proofs::QuietTexts::quiet_notajournal))]
 pub fn refuse_journal<K: Sink>(alloc: Global, cause: StartCause, output: &mut K) -> Ending
+    requires quiet { MaySayQuiet K.allows (K.pieces output.old) }
     ensures later { K.faults output.old ≤ K.faults output.new }
     ensures says { SaysUnopened cause (between K.faults K.written K.pieces output.old output.new) result }
 {
@@ -30,6 +33,7 @@ pub fn refuse_journal<K: Sink>(alloc: Global, cause: StartCause, output: &mut K)
 }
 
 fn refuse_record<K: Sink>(alloc: Global, n: u32, output: &mut K) -> Ending
+    requires quiet { MaySayQuiet K.allows (K.pieces output.old) }
     ensures later { K.faults output.old ≤ K.faults output.new }
     ensures says { SaysUnopened (BadRecord n) (between K.faults K.written K.pieces output.old output.new) result }
 {
@@ -52,7 +56,9 @@ fn bad_record_line(alloc: Global, n: u32) -> Result<Text, NoMemory>
 }
 
 /// Says why there is no basis.
+#[tactic(auto, using(crate::proofs::QuietTexts::quiet_readfault))]
 pub fn refuse_basis<K: Sink>(alloc: Global, cause: NoBasis, output: &mut K) -> Ending
+    requires quiet { MaySayQuiet K.allows (K.pieces output.old) }
     ensures later { K.faults output.old ≤ K.faults output.new }
     ensures says { SaysNoBasis cause (between K.faults K.written K.pieces output.old output.new) result }
     ensures failed { cause ≡ ShelfFailed → result ≡ ReadFault }
@@ -65,6 +71,7 @@ pub fn refuse_basis<K: Sink>(alloc: Global, cause: NoBasis, output: &mut K) -> E
 }
 
 fn refuse_file<K: Sink>(alloc: Global, bad: &BadBasis, output: &mut K) -> Ending
+    requires quiet { MaySayQuiet K.allows (K.pieces output.old) }
     ensures later { K.faults output.old ≤ K.faults output.new }
     ensures says { SaysNoBasis (Bad bad.now) (between K.faults K.written K.pieces output.old output.new) result }
 {

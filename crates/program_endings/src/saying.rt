@@ -1,7 +1,9 @@
 // What is written: a line that stands alone, or a whole text.
 ghost use Rattle.std.specs.Prelude.{◌≡◌, ◌≤◌, ◌++◌, codes, OnErr, OnOk};
 ghost use Rattle.watcher_set.specs.Evidence.{a_lack};
+ghost use Rattle.durable_lines.specs.Steps.{TakesAll};
 ghost use Rattle.program_endings.specs.Names.{Appends, HasCause, AppendsPart};
+ghost use Rattle.program_endings.specs.Quiet.{MaySay, MaySayQuiet};
 ghost use Rattle.program_endings.specs.Texts.{EndsText};
 ghost use Rattle.program_endings.specs.Writing.{WroteLine, WroteOrFailed, between};
 ghost use Rattle.program_endings.specs.declared.ending.Ending.TheVariants.{NoMemory as NoRoom};
@@ -14,6 +16,7 @@ use watcher_set::Lack;
 
 /// Writes a line. Where the output fails, a front of it was written.
 pub fn say<K: Sink>(output: &mut K, line: &[u8])
+    requires allowed { MaySay K.allows (K.pieces output.old) line.now }
     ensures later { K.faults output.old ≤ K.faults output.new }
     ensures wrote { WroteOrFailed (between K.faults K.written K.pieces output.old output.new) line.now }
 {
@@ -22,6 +25,7 @@ pub fn say<K: Sink>(output: &mut K, line: &[u8])
 
 /// Writes a line, and ends so.
 pub fn end<K: Sink>(output: &mut K, line: &[u8], ending: Ending) -> Ending
+    requires allowed { MaySay K.allows (K.pieces output.old) line.now }
     ensures later { K.faults output.old ≤ K.faults output.new }
     ensures wrote { WroteOrFailed (between K.faults K.written K.pieces output.old output.new) line.now }
     ensures so { result ≡ ending }
@@ -31,7 +35,9 @@ pub fn end<K: Sink>(output: &mut K, line: &[u8], ending: Ending) -> Ending
 }
 
 /// Says that there is no memory.
+#[tactic(auto, using(crate::proofs::QuietTexts::quiet_nomemory))]
 pub fn lack_memory<K: Sink>(lack: NoMemory, output: &mut K) -> Ending
+    requires quiet { MaySayQuiet K.allows (K.pieces output.old) }
     ensures later { K.faults output.old ≤ K.faults output.new }
     ensures wrote { WroteLine (between K.faults K.written K.pieces output.old output.new) (codes "nomemory") }
     ensures so { result ≡ (NoRoom a_lack) }
@@ -41,6 +47,7 @@ pub fn lack_memory<K: Sink>(lack: NoMemory, output: &mut K) -> Ending
 
 /// Writes a text, or says that there was no memory for it.
 pub fn write_text<K: Sink>(text: Result<Vec<u8>, NoMemory>, output: &mut K) -> Ending
+    requires all { TakesAll K.allows }
     ensures { EndsText text (between K.faults K.written K.pieces output.old output.new) result }
 {
     let text = match text {
@@ -55,6 +62,7 @@ pub fn write_text<K: Sink>(text: Result<Vec<u8>, NoMemory>, output: &mut K) -> E
 
 /// Writes all parts of a text, one after the other. At a fault a front of the text was written, and not all.
 pub fn write_parts<K: Sink>(output: &mut K, text: &TextParts) -> Result<(), WriteFault>
+    requires all { TakesAll K.allows }
     ensures cause { HasCause (K.faults output.old) (K.faults output.new) result }
     ensures whole { OnOk result (Appends (K.written output.old) (K.written output.new) text.now) }
     ensures part { OnErr result (AppendsPart (K.written output.old) (K.written output.new) text.now) }

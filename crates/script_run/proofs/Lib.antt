@@ -6,3 +6,4 @@ pub mod ScriptStatus
 pub mod RunStatus
 pub mod ShownSteps
 pub mod WrittenSteps
+pub mod QuietLines

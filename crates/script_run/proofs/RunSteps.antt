@@ -185,13 +185,13 @@ module _ {D W : Type 0} (g : Ghosts D) (w : WatcherGhosts W) (old disk : D) (lan
 
   pub ends_ran : (ran : Result (Ran D) Refusal) (output : Stream) (ending : Ending) (mid : List TakenPiece) (moments rest : List ℕ)
       → IfOk ran (λ (done : Ran D). HasAnsweredLanes basis lanes first closing done.transcript)
-      → IfOk ran (λ (done : Ran D). HasShown told_text output.pieces_before mid done.transcript.lines moments done.latest done.written)
-      → IfOk ran (λ (done : Ran D). AddsBy mid output.pieces_after done.latest)
+      → IfOk ran (λ (done : Ran D). HasShown told_text output.pieces_before mid done.transcript.lines moments done.latest.clock done.written)
+      → IfOk ran (λ (done : Ran D). AddsBy mid output.pieces_after done.latest.clock)
       → moments ++ rest ≡ told outlet → (inlet : Consumer ℕ Global AnyItems) → ArePaired outlet inlet
       → OnErr ran (closing ≡ first) → EndsRan ran reports output ending → EndsScript g old disk lanes basis auditors output ending
   ends_ran (Ok ran) output ending mid moments rest answered shown more split inlet paired same ends =
       ends_told ran.transcript answered output ending
-      (shows ran.transcript answered output.pieces_before mid output.pieces_after moments rest ran.latest ran.written shown more split inlet paired) ends
+      (shows ran.transcript answered output.pieces_before mid output.pieces_after moments rest ran.latest.clock ran.written shown more split inlet paired) ends
   ends_ran (Err lack) output (NoMemory other_lack) mid moments rest answered shown more split inlet paired same ends =
       let left = untouched same in inr ((ends, left.1), left.0)
   ends_ran (Err lack) output _ mid moments rest answered shown more split inlet paired same ends = absurd ends

@@ -1,5 +1,6 @@
 // Why there is no script, in a line.
 ghost use Rattle.std.specs.Prelude.{◌≡◌, ◌≤◌, ◌++◌, ◌∷◌, [], IfOk};
+ghost use Rattle.program_endings.specs.Quiet.{MaySayQuiet};
 ghost use Rattle.program_endings.specs.Writing.{between};
 ghost use Rattle.script_run.specs.inside.Unread.{SaysUnread, bad_row_text};
 ghost use Rattle.script_run.specs.declared.intake.Unread.TheVariants.{BadRow};
@@ -12,7 +13,9 @@ use std::alloc::Global;
 use text_lines::{LineWriter, Text};
 
 /// Says why there is no script.
+#[tactic(auto, using(crate::proofs::QuietLines::quiet_toolong, crate::proofs::QuietLines::quiet_unread))]
 pub fn refuse<K: Sink>(alloc: Global, unread: Unread, output: &mut K) -> Ending
+    requires quiet { MaySayQuiet K.allows (K.pieces output.old) }
     ensures later { K.faults output.old ≤ K.faults output.new }
     ensures says { SaysUnread unread (between K.faults K.written K.pieces output.old output.new) result }
 {
@@ -25,6 +28,7 @@ pub fn refuse<K: Sink>(alloc: Global, unread: Unread, output: &mut K) -> Ending
 }
 
 fn refuse_row<K: Sink>(alloc: Global, row: u32, field: u32, output: &mut K) -> Ending
+    requires quiet { MaySayQuiet K.allows (K.pieces output.old) }
     ensures later { K.faults output.old ≤ K.faults output.new }
     ensures says { SaysUnread (BadRow row field) (between K.faults K.written K.pieces output.old output.new) result }
 {

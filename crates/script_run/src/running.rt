@@ -1,13 +1,15 @@
 // A run of a script: the basis is fetched where a line asks for values, the office is opened, each lane of the script is run
 // by a caller of its own while the transcript is written, and the office is closed.
-ghost use Rattle.std.specs.Prelude.{◌≡◌, ℕ, ◌<◌, ◌≤◌, [], length, IfOk};
+ghost use Rattle.std.specs.Prelude.{◌≡◌, ℕ, ◌<◌, ◌≤◌, [], length, IfOk, OnOk};
+ghost use Rattle.durable_lines.specs.Steps.{IsInStep};
+ghost use Rattle.outside_io.specs.Streams.{taken_bytes};
 ghost use Rattle.script_run.specs.Names.{list_any, Stream, between, input_between, shelf_between, ReadFault, is_valuation, HasEnded, IsOfficeHistory, PassFacts, told_text, told_texts};
 ghost use Rattle.std.specs.Io.KnownBytes.{Appends};
 ghost use Rattle.script_run.specs.Running.{EndsRun};
 ghost use Rattle.script_run.specs.Outcome.{EndsScript};
 ghost use Rattle.script_run.specs.Script.{asks_for_values};
 ghost use Rattle.transcript_text.specs.Lanes.{AreScriptLanes};
-ghost use Rattle.script_run.specs.inside.Ran.{AddsBy, EndsRan, EndsTold, IsWritten, output_until};
+ghost use Rattle.script_run.specs.inside.Ran.{AddsBy, EndsRan, EndsTold, IsWritten, MayGoOn, output_until};
 ghost use Rattle.script_run.specs.inside.Hearing.{StartsHeard};
 
 use crate::intake::read_lanes;
@@ -29,6 +31,7 @@ use watcher_set::{Lack, Watching};
 /// Reads a script, opens the office on the disk, answers the script's lines, and writes the transcript meanwhile, and behind
 /// it what the watchers report of the accepted postings. The basis of the valuations is that of this name; where there are none the
 /// shelf isn't touched.
+#[tactic(auto, using(crate::proofs::QuietLines::may_say))]
 pub fn run<
     R: Threads + Wait + Sync,
     S: Source,
@@ -49,6 +52,7 @@ pub fn run<
     gate: &G,
 ) -> Finished<D>
     requires told { (before : ℕ) → W.told watchers before [] }
+    requires step { IsInStep D.Disk K.allows (taken_bytes (K.pieces output.old)) [] }
     ensures ends { EndsRun D.Disk disk result.disk name.now (W.handed watchers) (input_between S.faults S.left S.given S.ended input.old input.new)
         (between K.faults K.written K.pieces output.old output.new) (shelf_between H.faults H.agrees shelf.old shelf.new)
         (shelf.new ≡ shelf.old) result.ending }
@@ -104,6 +108,7 @@ fn run_office<
     requires ours { begun.pass.turnstile ≡ begun.office }
     requires started { (old : D) × ((watchers : W) × StartsHeard D.Disk old watchers moments.ring begun.pass) }
     requires facts { PassFacts IsOfficeHistory begun.pass }
+    requires step { IsInStep D.Disk K.allows (taken_bytes (K.pieces output.old)) [] }
     ensures ends { (old : D) (watchers : W) → StartsHeard D.Disk old watchers moments.ring begun.pass
         → EndsScript D.Disk old result.disk lanes.now begun.basis (W.handed watchers)
         (between K.faults K.written K.pieces output.old output.new) result.ending }
@@ -139,10 +144,11 @@ fn end_ran<D: Disk, K: Sink<Beside = D>>(
     output: &mut K,
 ) -> Ending
     requires few { length reports.now ≤ 16 }
+    requires step { MayGoOn D.Disk K.allows (K.pieces output.old) ran }
     ensures later { K.faults output.old ≤ K.faults output.new }
     ensures ends { (first : Stream) → IsWritten first (K.faults output.old) (K.written output.old) ran
         → EndsRan ran reports.now (output_until first (K.faults output.new) (K.written output.new) (K.pieces output.new)) result }
-    ensures pieces { IfOk ran (λ ran. AddsBy (K.pieces output.old) (K.pieces output.new) ran.latest) }
+    ensures pieces { IfOk ran (λ ran. AddsBy (K.pieces output.old) (K.pieces output.new) ran.latest.clock) }
 {
     match ran {
         Ok(ran) => end_told(alloc, &ran, reports, output),
@@ -157,13 +163,14 @@ fn end_told<D: Disk, K: Sink<Beside = D>>(
     output: &mut K,
 ) -> Ending
     requires few { length reports.now ≤ 16 }
+    requires step { OnOk ran.now.written (IsInStep D.Disk K.allows (taken_bytes (K.pieces output.old)) ran.now.latest.states) }
     ensures later { K.faults output.old ≤ K.faults output.new }
     ensures ends { (first : Stream) → first.faults_before ≤ K.faults output.old
         → HasEnded first.faults_before (K.faults output.old) first.before (K.written output.old)
         told_text ran.now.transcript.lines ran.now.written
         → EndsTold ran.now.transcript.lines reports.now
         (output_until first (K.faults output.new) (K.written output.new) (K.pieces output.new)) result }
-    ensures pieces { AddsBy (K.pieces output.old) (K.pieces output.new) ran.now.latest }
+    ensures pieces { AddsBy (K.pieces output.old) (K.pieces output.new) ran.now.latest.clock }
 {
     match ran.written {
         Ok(()) => write_reports(alloc, &ran.transcript.lines, reports, &ran.latest, output),
@@ -181,11 +188,12 @@ fn write_reports<D: Disk, K: Sink<Beside = D>>(
     output: &mut K,
 ) -> Ending
     requires few { length reports.now ≤ 16 }
+    requires step { IsInStep D.Disk K.allows (taken_bytes (K.pieces output.old)) latest.now.states }
     ensures later { K.faults output.old ≤ K.faults output.new }
     ensures ends { (first : Stream) → K.faults output.old ≡ first.faults_before → Appends first.before (K.written output.old) (told_texts lines.now)
         → EndsTold lines.now reports.now
         (output_until first (K.faults output.new) (K.written output.new) (K.pieces output.new)) result }
-    ensures pieces { AddsBy (K.pieces output.old) (K.pieces output.new) latest.now }
+    ensures pieces { AddsBy (K.pieces output.old) (K.pieces output.new) latest.now.clock }
 {
     let text = match report_lines(alloc, reports) {
         Ok(text) => text,

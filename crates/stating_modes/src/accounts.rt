@@ -1,5 +1,6 @@
 // One policy's entries, and the policy as they left it. The journal's records are read again for them.
 ghost use Rattle.std.specs.Prelude.{◌≡◌, ◌≤◌, List, [], ◌∷◌, codes, decimal, IfOk};
+ghost use Rattle.durable_lines.specs.Steps.{TakesAll};
 ghost use Rattle.stating_modes.specs.Names.{ACommand, line_of, between};
 ghost use Rattle.stating_modes.specs.Books.{policy_account};
 ghost use Rattle.stating_modes.specs.Stating.{EndsState};
@@ -19,7 +20,8 @@ use watcher_set::NoWatchers;
 
 /// Writes the entries of the policy of this number, and the policy as they left it.
 pub fn account<K: Sink, D: Disk>(alloc: Global, id: u32, output: &mut K, disk: D) -> Finished<D>
-    requires { 1 ≤ id }
+    requires all { TakesAll K.allows }
+    requires id { 1 ≤ id }
     ensures { EndsState D.Disk disk result.disk (policy_account id)
         (between K.faults K.written K.pieces output.old output.new) result.ending }
 {
@@ -37,7 +39,8 @@ pub fn account<K: Sink, D: Disk>(alloc: Global, id: u32, output: &mut K, disk: D
 
 // Writes the account of a policy of a journal that opens.
 fn write_account<K: Sink, D: Disk>(alloc: Global, id: u32, output: &mut K, disk: D) -> Finished<D>
-    requires { 1 ≤ id }
+    requires all { TakesAll K.allows }
+    requires id { 1 ≤ id }
     ensures { EndsReading D.Disk disk result.disk id (between K.faults K.written K.pieces output.old output.new) result.ending }
 {
     match read_again(alloc, id, disk) {

@@ -1,5 +1,6 @@
 // The journal's snapshot is saved on the second disk.
 ghost use Rattle.std.specs.Prelude.{◌≡◌, ◌≢◌, ◌<◌, IfOk};
+ghost use Rattle.durable_lines.specs.Steps.{TakesAll};
 ghost use Rattle.watcher_set.specs.Evidence.{a_lack};
 ghost use Rattle.stating_modes.specs.Names.{IsSoundSnapshot, between};
 ghost use Rattle.stating_modes.specs.Saved.{EndsCheckpoint};
@@ -25,6 +26,7 @@ pub fn checkpoint<K: Sink, D: Disk, E: Disk>(
     disk: D,
     second: E,
 ) -> FinishedKept<D, E>
+    requires all { TakesAll K.allows }
     ensures { EndsCheckpoint D.Disk E.Disk (disks_of disk second result)
         (between K.faults K.written K.pieces output.old output.new) result.ending }
 {
@@ -39,6 +41,7 @@ fn checkpoint_by<K: Sink, D: Disk, E: Disk, L: Ledger>(
     second: E,
     blank: Blank,
 ) -> FinishedKept<D, E>
+    requires all { TakesAll K.allows }
     requires name { blank.name ≡ L.name }
     requires parts { blank.parts ≡ L.parts }
     requires some { 0 < L.parts }
@@ -67,7 +70,8 @@ fn save_books<K: Sink, E: Disk>(
     store: &mut Store<E>,
     output: &mut K,
 ) -> Ending
-    requires { IsSoundSnapshot books.now }
+    requires all { TakesAll K.allows }
+    requires sound { IsSoundSnapshot books.now }
     ensures { EndsSaving store.old store.new books.now
         (between K.faults K.written K.pieces output.old output.new) result }
 {
@@ -84,7 +88,8 @@ fn save<K: Sink, E: Disk>(
     store: &mut Store<E>,
     output: &mut K,
 ) -> Ending
-    requires { IsSoundSnapshot snapshot.now }
+    requires all { TakesAll K.allows }
+    requires sound { IsSoundSnapshot snapshot.now }
     ensures { EndsSaving store.old store.new snapshot.now
         (between K.faults K.written K.pieces output.old output.new) result }
 {
@@ -101,6 +106,7 @@ fn save_with_line<K: Sink, E: Disk>(
     store: &mut Store<E>,
     output: &mut K,
 ) -> Ending
+    requires all { TakesAll K.allows }
     requires sound { IsSoundSnapshot snapshot.now }
     requires line { line.items ≡ checkpoint_text snapshot.now }
     ensures ample { result ≢ Ending.NoMemory a_lack }

@@ -1,5 +1,6 @@
 // What an administrator reads: all policies, and the balances.
 ghost use Rattle.std.specs.Prelude.{◌≡◌, IfOk, length};
+ghost use Rattle.durable_lines.specs.Steps.{TakesAll};
 ghost use Rattle.stating_modes.specs.Names.{AllByRecursion, flat_map, policy_text, IsSoundSnapshot, between, IsSound, book, ledger_of};
 ghost use Rattle.money_ledgers.specs.Balances.{balances};
 ghost use Rattle.stating_modes.specs.Books.{books_text};
@@ -21,6 +22,7 @@ use text_lines::{Text, add};
 
 /// Writes all policies in order of issue, and the balances.
 pub fn state<K: Sink, D: Disk>(alloc: Global, output: &mut K, disk: D) -> Finished<D>
+    requires all { TakesAll K.allows }
     ensures { EndsState D.Disk disk result.disk
         (λ commands. books_text (book commands) (ledger_of commands) (length commands))
         (between K.faults K.written K.pieces output.old output.new) result.ending }
@@ -47,6 +49,7 @@ pub fn state_kept<K: Sink, D: Disk, E: Disk, L: Ledger>(
     second: E,
     steps: &mut Steps<L>,
 ) -> FinishedKept<D, E>
+    requires all { TakesAll K.allows }
     ensures few { IsStateTold result.ending → ReadsFew D.Disk E.Disk (disks_of disk second result) steps.old steps.new }
     ensures ends { EndsStateKept D.Disk E.Disk (disks_of disk second result)
         (between K.faults K.written K.pieces output.old output.new) result.ending }

@@ -7,5 +7,6 @@ pub mod ToldSteps
 pub mod Telling
 pub mod WritableSteps
 pub mod TextLines
+pub mod OnlyTold
 pub mod PlaceSteps
 pub mod AcceptedSteps

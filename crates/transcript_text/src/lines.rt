@@ -23,6 +23,7 @@ impl Wording for ScriptWords {
 
     ghost text = { told_text };
 
+    #[tactic(auto, using(crate::proofs::OnlyTold::only_told))]
     fn words(alloc: Global, told: &TranscriptLine) -> Result<Vec<u8>, NoMemory> {
         Ok(line_text(alloc, told)?.into_vec())
     }

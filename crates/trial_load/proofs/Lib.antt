@@ -7,3 +7,4 @@ pub mod LoadAnswers
 pub mod LoadSteps
 pub mod LoadStatus
 pub mod ReadsBack
+pub mod Silence

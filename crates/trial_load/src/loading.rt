@@ -1,5 +1,6 @@
 // A generated script is run, and then its policies are valued.
 ghost use Rattle.std.specs.Prelude.{◌≡◌, ◌<◌, ◌≤◌, ◌^◌, [], IfOk, All, codes, length};
+ghost use Rattle.durable_lines.specs.Steps.{TakesAll};
 ghost use Rattle.rtrb.specs.Ring.{received};
 ghost use Rattle.policy_types.specs.Limits.{most_commands};
 ghost use Rattle.shared_office.specs.Offices.{IsOfficeHistory};
@@ -47,6 +48,7 @@ pub fn load<R: Threads + Wait + Sync, K: Sink, H: Shelf, D: Disk + Send, G: Gate
     disk: D,
     gate: &G,
 ) -> Finished<D>
+    requires all { TakesAll K.allows }
     requires seed { seed < 2 ^ 31 }
     requires count { (1 ≤ count) × (count ≤ 100000) }
     requires lanes { (1 ≤ lanes) × (lanes ≤ 8) }
@@ -111,6 +113,7 @@ impl Wording for NoWords {
 
     ghost text = { λ told. [] };
 
+    #[tactic(auto, using(crate::proofs::Silence::only_nothing))]
     fn words(alloc: Global, _told: &TranscriptLine) -> Result<Vec<u8>, NoMemory> {
         Ok(Vec::new(alloc))
     }
@@ -133,6 +136,7 @@ fn load_office<
     output: &mut K,
     gate: &G,
 ) -> Finished<D>
+    requires all { TakesAll K.allows }
     requires lanes { AreLoadLanes lanes.now }
     requires unheard { received moments.ring ≡ [] }
     requires workers { (1 ≤ workers) × (workers ≤ 64) }
@@ -199,6 +203,7 @@ fn write_loaded<K: Sink>(
     answer: Result<Valuation, ValueFault>,
     output: &mut K,
 ) -> Ending
+    requires all { TakesAll K.allows }
     requires answer { IsLoadAnswer answer }
     ensures { EndsLoaded lines.now answer (between K.faults K.written K.pieces output.old output.new) result }
 {
@@ -215,6 +220,7 @@ fn write_line<K: Sink>(
     rows: &Rows,
     output: &mut K,
 ) -> Ending
+    requires all { TakesAll K.allows }
     requires rows { length rows.now ≤ most_commands }
     requires bounded { AreSummable rows.now }
     ensures { EndsLine lines.now rows.now (between K.faults K.written K.pieces output.old output.new) result }

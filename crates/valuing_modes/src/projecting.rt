@@ -1,5 +1,6 @@
 // The projection of the policies from a day on, by the basis on the shelf.
 ghost use Rattle.std.specs.Prelude.{◌≡◌, ◌<◌, ◌≤◌, Ok};
+ghost use Rattle.durable_lines.specs.Steps.{TakesAll};
 ghost use Rattle.valuing_modes.specs.Names.{IsDay, between, shelf_between, ReadFault};
 ghost use Rattle.valuing_modes.specs.Projecting.{EndsProject};
 ghost use Rattle.valuing_modes.specs.inside.Projected.{CanBePrinted, EndsPrinted, IsLoneProjection};
@@ -31,6 +32,7 @@ pub fn project<R: Threads + Wait + Sync, K: Sink, H: Shelf, D: Disk, G: Gate>(
     disk: D,
     gate: &G,
 ) -> Finished<D>
+    requires all { TakesAll K.allows }
     requires day { IsDay on }
     requires years { (1 ≤ years) × (years ≤ 131) }
     requires workers { (1 ≤ workers) × (workers ≤ 64) }
@@ -65,6 +67,7 @@ fn write_answer<K: Sink>(
     answer: Result<Projection, ValueFault>,
     output: &mut K,
 ) -> Ending
+    requires all { TakesAll K.allows }
     requires answer { IsLoneProjection answer }
     ensures ends { EndsPrinted answer (between K.faults K.written K.pieces output.old output.new) result }
 {
@@ -77,6 +80,7 @@ fn write_answer<K: Sink>(
 }
 
 fn write_projection<K: Sink>(alloc: Global, projection: &Projection, output: &mut K) -> Ending
+    requires all { TakesAll K.allows }
     requires printable { CanBePrinted projection.now }
     ensures ends { EndsPrinted (Ok projection.now) (between K.faults K.written K.pieces output.old output.new) result }
 {

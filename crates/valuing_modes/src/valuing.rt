@@ -1,5 +1,6 @@
 // The values of the policies on a day, by the basis on the shelf.
 ghost use Rattle.std.specs.Prelude.{◌≡◌, ◌<◌, ◌≤◌, ◌++◌, ◌∷◌, [], IfOk, codes, decimal};
+ghost use Rattle.durable_lines.specs.Steps.{TakesAll};
 ghost use Rattle.valuing_modes.specs.Names.{IsDay, between, shelf_between, ReadFault};
 ghost use Rattle.valuing_modes.specs.Valuing.{EndsValue};
 ghost use Rattle.program_endings.specs.Blocks.{IsWritableBlock};
@@ -36,6 +37,7 @@ pub fn value<R: Threads + Wait + Sync, K: Sink, H: Shelf, D: Disk, G: Gate>(
     disk: D,
     gate: &G,
 ) -> Finished<D>
+    requires all { TakesAll K.allows }
     requires day { IsDay on }
     requires workers { (1 ≤ workers) × (workers ≤ 64) }
     ensures ends { EndsValue D.Disk disk result.disk on at measure basis.now
@@ -76,6 +78,7 @@ fn write_answer<R: Threads + Sync, K: Sink>(
     workers: u8,
     output: &mut K,
 ) -> Ending
+    requires all { TakesAll K.allows }
     requires day { IsDay on }
     requires workers { (1 ≤ workers) × (workers ≤ 64) }
     requires answer { IsLoneAnswer answer }
@@ -99,6 +102,7 @@ fn write_values<R: Threads + Sync, K: Sink>(
     workers: u8,
     output: &mut K,
 ) -> Ending
+    requires all { TakesAll K.allows }
     requires day { IsDay on }
     requires workers { (1 ≤ workers) × (workers ≤ 64) }
     requires writable { IsWritableBlock valuation.now }
@@ -126,6 +130,7 @@ fn write_values<R: Threads + Sync, K: Sink>(
 
 // Reports that there are only so many commands.
 fn refuse_position<K: Sink>(alloc: Global, count: u32, output: &mut K) -> Ending
+    requires all { TakesAll K.allows }
     ensures later { K.faults output.old ≤ K.faults output.new }
     ensures says { SaysAhead count (between K.faults K.written K.pieces output.old output.new) result }
 {

@@ -1,11 +1,14 @@
 -- How a run ends, by the outcomes of its lines
-use Rattle.std.specs.Prelude.{◌≡◌, ◌⊎◌, ℕ, ◌≤◌, ◌++◌, Option, true, false, List, codes, length, map, take, Result, Ok, Err}
-use Rattle.script_run.specs.Names.{concat, Rose, AllByRecursion, AppendsPart, TakenPiece, Ending, Done, WriteFault, DiskFailed, NoRoom, Stream, WroteAll, WroteLine, HasEnded, run_text, told_text, reports_text}
+use Rattle.std.specs.Prelude.{◌≡◌, ◌⊎◌, ℕ, ◌≤◌, ◌++◌, Option, true, false, List, codes, length, map, take, OnOk, Result, Ok, Err}
+use Rattle.durable_lines.specs.Steps.{IsInStep}
+use Rattle.script_run.specs.Names.{concat, Ghosts, Rose, AllByRecursion, AppendsPart, TakenPiece, Ending, Done, WriteFault, DiskFailed, NoRoom, Stream, WroteAll, WroteLine, HasEnded, run_text, told_text, reports_text}
 use Rattle.memory_requests.specs.declared.evidence.NoMemory.{NoMemory as Refusal}
 use Rattle.policy_types.specs.declared.watcher.Report.{Report}
 use Rattle.lane_runner.specs.declared.transcript.TranscriptLine.{TranscriptLine}
 use Rattle.lane_runner.specs.declared.running.Ran.{Ran}
 use Rattle.lane_runner.specs.Tallies.{any_faulted, any_lacked}
+use Rattle.outside_io.specs.Streams.{taken_bytes}
+use Rattle.program_endings.specs.Quiet.{MaySayQuiet}
 
 -- The texts of the first so many lines were written, and no more: memory was refused for the next one, or for the
 -- reports. The output had no fault.
@@ -51,3 +54,9 @@ abbrev pub EndsRan : {D : Type 0} → Result (Ran D) Refusal → List Report →
 EndsRan (Ok ran) reports output ending = EndsTold ran.transcript.lines reports output ending
 EndsRan (Err lack) reports output (NoRoom other_lack) = WroteLine output (codes "nomemory")
 EndsRan (Err lack) reports output _ = ⊥
+
+-- what may be written after a run of lanes: where their text is whole, what is justified by its moment; where the lanes were not
+-- run, a line that reports no accepted posting
+abbrev pub MayGoOn : {D : Type 0} → Ghosts D → (List ℕ → List D → Type 0) → List TakenPiece → Result (Ran D) Refusal → Type 0
+MayGoOn g allows pieces (Ok ran) = OnOk ran.written (IsInStep g allows (taken_bytes pieces) ran.latest.states)
+MayGoOn g allows pieces (Err lack) = MaySayQuiet allows pieces

@@ -2,14 +2,20 @@ use Rattle.life_cli.proofs.Names.{ℕ, List, Some, ap, map, refl, length, shippe
 use Rattle.std.proofs.Common.{inl, inr}
 use Rattle.std.specs.Prelude.{string_bytes}
 use Rattle.outside_io.specs.FileCalls.{FileCall, file_reads}
-use Rattle.outside_io.specs.Streams.{StreamPiece, passed_bytes, pieces_by}
+use Rattle.outside_io.specs.Streams.{StreamPiece, passed_bytes, pieces_by, taken_bytes}
 use Rattle.life_app.proofs.LegalityLaws.{legally_answered}
 use Rattle.life_app.proofs.DurableModes.{always_stays}
+use Rattle.life_app.proofs.PermitSteps.{fresh_permits}
 use Rattle.life_app.proofs.ToldValues.{told_enclosed, value_enclosed}
 use Rattle.life_app.specs.TableReserves.{table_reserves}
 use Rattle.life_cli.specs.Names.{Opens}
 use Rattle.life_cli.proofs.Promised.{asked_for, asked_to_value}
 use Rattle.life_cli.proofs.shipped.run_shipped.Goals as goal
+
+pub obey-status-requires : goal.obey-status-requires
+obey-status-requires g c =
+    fresh_permits _ g.P.Allowing.allows (map string_bytes c.args.words.now) _
+    (ap (λ (pieces : List StreamPiece). taken_bytes (pieces_by pieces c.args.devices.output.by)) c.requires.output.1) c.requires.takes
 
 pub returns-clause-shipped : goal.returns-clause-shipped
 returns-clause-shipped g c = c.obey-status.ensures.shipped
