@@ -18,7 +18,8 @@ PREMISES = ["life_args.specs.Words.IsRun", "program_endings.specs.Writing.IsWhol
             "life_app.specs.Headline.IsGivenBasis", "basis_shelf.specs.Bases.IsBasis", "office_state.specs.Journals.Opens"]
 DISK_MODEL = [f"outside_io.specs.FileCalls.{name}" for name in ("AreAllowed", "FileImage", "FileLeft", "file_reads")]
 HEADLINE = ["life_app.specs.Headline.IsPromised"]
-DURABLE = ["life_app.specs.Durable.IsDurable", "life_app.specs.Durable.SpellsCommands"]
+DURABLE = ["life_app.specs.Durable.IsDurable", "durable_lines.specs.Kept.SpellsCommands"]
+AT_EACH_STEP = ["durable_lines.specs.Kept.IsJustified"]
 VALUES = ["life_app.specs.Values.IsEnclosed", "life_app.specs.Values.HoldsCommands", RESERVES]
 LEGAL = ["life_app.specs.Legality.IsLegallyAnswered"]
 WHOLE = [*HEADLINE, "life_app.specs.Headline.IsUnrun", *GIVEN, *PREMISES, *DISK_MODEL]
@@ -29,6 +30,7 @@ TOLD = ["script_run.specs.Script.EndsUnread", "program_endings.specs.WithoutBasi
 COUNTED: tuple[tuple[str, list[str], list[str]], ...] = (
     ("durability", DURABLE, []),
     ("durability and the disk model", [*DURABLE, *DISK_MODEL], []),
+    ("durability at every step", AT_EACH_STEP, []),
     ("values", VALUES, []),
     ("values and the disk model", [*VALUES, *DISK_MODEL], []),
     ("legality", LEGAL, []),
