@@ -97,9 +97,9 @@ def clauses() -> str:
 
 # code that is read and not proved: the file, its functions (none means the whole file), what a reader checks, and what tests it
 READ: tuple[tuple[str, str, str, str], ...] = (
-    ("life_cli/src/main.rt", "main words_of hold_descriptors", "the arguments are the system's; it ends as `leave` says, or "
-     "prints `nomemory` if there are no arguments for want of memory; no file takes the place of a closed stream",
-     "cases, descriptors"),
+    ("life_cli/src/main.rt", "main obey words_of hold_descriptors", "the arguments are the system's; the output of `run` allows "
+     "only what is justified; it ends as `leave` says, or prints `nomemory` if there are no arguments for want of memory; no "
+     "file takes the place of a closed stream", "cases, descriptors"),
     ("life_cli/src/shipped.rt", "leave", "the files stay open and locked until it has ended", "two runs at once"),
     ("life_cli/src/devices.rt", "devices_of", "the devices are standard input, standard output, the folder and its two files",
      "recorded system calls"),
