@@ -1,6 +1,7 @@
 -- What an output has to take of each mode
 use Rattle.life_app.proofs.Names.{◌≡◌, ℕ, true, List, [], ◌∷◌, ◌++◌, arith, refl, ap, subst, sym, ◌∙◌, codes, Ghosts, Mode, Run, Value, Project, State, Checkpoint, Generate, Load, AreWords, TakenPiece}
-use Rattle.std.proofs.Common.{Bool, false, cases_Bool, bytes_eq, inl, inr}
+use Rattle.std.proofs.Common.{Bool, false, bytes_eq, inl, inr}
+use Rattle.std.proofs.lemmas.Bool.{cases_Bool}
 use Rattle.durable_lines.specs.Steps.{IsInStep, TakesAll}
 use Rattle.durable_lines.specs.Lines.{IsQuiet}
 use Rattle.durable_lines.proofs.QuietLines.{quiet_word}
@@ -13,7 +14,7 @@ use Rattle.life_app.specs.Permits.{Permits, TakesTranscripts, asks_to_run}
 pub quiet_usage : IsQuiet (codes "usage" ++ 10 ∷ [])
 quiet_usage = quiet_word (codes "usage") refl (omega arith)
 
-is_run : Mode → Bool
+abbrev pub is_run : Mode → Bool
 is_run (Run basis) = true
 is_run _ = false
 
@@ -31,14 +32,21 @@ module _ {D : Type 0} (g : Ghosts D) (allows : List ℕ → List D → Type 0) (
   pub may_run : (taken : List ℕ) (basis : List ℕ) → Permits g allows taken words → AreWords words (Run basis) → IsInStep g allows taken []
   may_run taken basis permits are = permits.run (asked words (Run basis) are)
 
-  pub may_do : (taken : List ℕ) (mode : Mode) → is_run mode ≡ false → Permits g allows taken words → AreWords words mode → TakesAll allows
-  may_do taken mode other permits are = permits.other (asked words mode are ∙ other)
+  pub may_do : (taken : List ℕ) (mode : Mode) → Permits g allows taken words → AreWords words mode → is_run mode ≡ false → TakesAll allows
+  may_do taken mode permits are other = permits.other (asked words mode are ∙ other)
 
   pub may_refuse : (pieces : List TakenPiece) → Permits g allows (taken_bytes pieces) words → MaySayQuiet allows pieces
   may_refuse pieces permits = elim (cases_Bool (asks_to_run words)) [
     | inl run ↦ step_may_say g allows pieces (permits.run run)
     | inr other ↦ λ text quiet. permits.other other _ []
   ]
+
+  -- an output that takes anything, to which nothing was written yet
+  pub any_permits : (taken : List ℕ) → TakesAll allows → taken ≡ [] → Permits g allows taken words
+  any_permits taken all none = record {
+    run = λ asks. fresh_step g allows taken none (λ bytes states justified. all bytes states);
+    other = λ asks. all;
+  }
 
   -- nothing was written yet
   pub fresh_permits : (taken : List ℕ) → taken ≡ [] → TakesTranscripts g allows words → Permits g allows taken words

@@ -4,11 +4,7 @@ use Rattle.std.specs.Prelude.{codes, decimal}
 use Rattle.durable_lines.specs.Lines.{IsQuiet}
 use Rattle.durable_lines.proofs.FieldLaws.{bare_any, bare_by}
 use Rattle.durable_lines.proofs.QuietLines.{quiet_fields, quiet_word}
-use Rattle.durable_lines.specs.Steps.{IsInStep}
-use Rattle.outside_io.specs.Streams.{TakenPiece, taken_bytes}
-use Rattle.outside_io.specs.declared.disks.Disk.{Ghosts}
-use Rattle.program_endings.specs.Quiet.{MaySayQuiet}
-use Rattle.program_endings.proofs.QuietTexts.{quiet_readfault, step_may_say}
+use Rattle.program_endings.proofs.QuietTexts.{quiet_readfault}
 use Rattle.script_run.specs.inside.Unread.{bad_row_text}
 
 pub quiet_toolong : IsQuiet (codes "badscript,toolong" ++ 10 ∷ [])
@@ -20,8 +16,3 @@ quiet_unread = quiet_readfault
 pub quiet_row : (row field : ℕ) → IsQuiet (bad_row_text row field ++ 10 ∷ [])
 quiet_row row field =
     quiet_fields (codes "badscript") (decimal row ∷ decimal field ∷ []) (bare_by (codes "badscript") refl) (bare_any row, (bare_any field, tt)) (omega arith)
-
--- before a run, such a line may be written
-pub may_say : {D : Type 0} (g : Ghosts D) (allows : List ℕ → List D → Type 0) (pieces : List TakenPiece)
-    → IsInStep g allows (taken_bytes pieces) [] → MaySayQuiet allows pieces
-may_say g allows pieces step = step_may_say g allows pieces step

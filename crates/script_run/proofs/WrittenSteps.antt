@@ -10,6 +10,12 @@ use Rattle.lane_runner.specs.declared.running.Ran.{Ran}
 use Rattle.lane_runner.specs.declared.wording.Unwritten.TheVariants.{WriteFault, NoMemory}
 use Rattle.std.proofs.lemmas.List.{length-map}
 use Rattle.lane_runner.proofs.GatherSteps.{part_behind, part_more, part_whole, take_past}
+use Rattle.durable_lines.specs.Steps.{IsInStep}
+use Rattle.outside_io.specs.Streams.{taken_bytes}
+use Rattle.outside_io.specs.declared.disks.Disk.{Ghosts}
+use Rattle.program_endings.proofs.QuietTexts.{step_may_say}
+use Rattle.std.specs.Prelude.{OnOk}
+use Rattle.script_run.specs.inside.Ran.{MayGoOn}
 use Rattle.transcript_text.specs.Lines.{reports_text}
 use Rattle.script_run.proofs.ShownSteps.{all_texts}
 
@@ -29,6 +35,15 @@ written_of Other faults written old new first closing (Err lack) output count by
 pub stays : {D : Type 0} (P Q S : Type 0) (ran : Result (Ran D) Refusal) → OnErr ran (P × Q × S) → OnErr ran P
 stays P Q S (Ok done) same = tt
 stays P Q S (Err lack) same = same.0
+
+-- what may be written then: what is justified by the moment of the lines, or a line that reports no accepted posting
+pub go_on : {D K : Type 0} (g : Ghosts D) (allows : List ℕ → List D → Type 0) (pieces : K → List TakenPiece) (old new : K) (P S : Type 0)
+    (ran : Result (Ran D) Refusal)
+    → IfOk ran (λ (done : Ran D). OnOk done.written (IsInStep g allows (taken_bytes (pieces new)) done.latest.states))
+    → IsInStep g allows (taken_bytes (pieces old)) [] → OnErr ran (P × (new ≡ old) × S) → MayGoOn g allows (pieces new) ran
+go_on g allows pieces old new P S (Ok done) step first same = step
+go_on {K = K} g allows pieces old new P S (Err lack) step first same =
+    step_may_say g allows (pieces new) (subst (λ (output : K). IsInStep g allows (taken_bytes (pieces output)) []) (sym same.1) first)
 
 module _ (lines : List TranscriptLine) (reports : List Report) (first : Stream) (faults later : ℕ) (mid last : Option (List ℕ))
     (pieces : List TakenPiece) where

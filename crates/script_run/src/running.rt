@@ -31,7 +31,6 @@ use watcher_set::{Lack, Watching};
 /// Reads a script, opens the office on the disk, answers the script's lines, and writes the transcript meanwhile, and behind
 /// it what the watchers report of the accepted postings. The basis of the valuations is that of this name; where there are none the
 /// shelf isn't touched.
-#[tactic(auto, using(crate::proofs::QuietLines::may_say))]
 pub fn run<
     R: Threads + Wait + Sync,
     S: Source,

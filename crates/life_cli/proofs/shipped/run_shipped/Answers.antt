@@ -13,9 +13,10 @@ use Rattle.life_cli.proofs.Promised.{asked_for, asked_to_value}
 use Rattle.life_cli.proofs.shipped.run_shipped.Goals as goal
 
 pub obey-status-requires : goal.obey-status-requires
-obey-status-requires g c =
-    fresh_permits _ g.P.Allowing.allows (map string_bytes c.args.words.now) _
-    (ap (λ (pieces : List StreamPiece). taken_bytes (pieces_by pieces c.args.devices.output.by)) c.requires.output.1) c.requires.takes
+obey-status-requires g c = record {
+  permits = fresh_permits _ g.P.Allowing.allows (map string_bytes c.args.words.now) _
+      (ap (λ (pieces : List StreamPiece). taken_bytes (pieces_by pieces c.args.devices.output.by)) c.requires.output.1) c.requires.takes;
+}
 
 pub returns-clause-shipped : goal.returns-clause-shipped
 returns-clause-shipped g c = c.obey-status.ensures.shipped

@@ -2,7 +2,17 @@ use Rattle.std.proofs.Common.{ℕ, ◌≡◌, ◌∙◌, ap, inl, refl, Err}
 use Rattle.script_run.specs.declared.intake.Unread.TheVariants.{TooLong, BadRow, ReadFault}
 use Rattle.script_run.proofs.RunSteps.{asked_by, ends_unread, lanes_begun, lanes_not_begun, starts_heard}
 use Rattle.script_run.proofs.ScriptSteps.{script_lanes}
+use Rattle.program_endings.proofs.QuietTexts.{step_may_say}
 use Rattle.script_run.proofs.running.run.Goals as goal
+
+pub refuse-requires : goal.refuse-requires
+refuse-requires g c = record { quiet = step_may_say g.D.Disk g.K.Sink.allows (g.K.Sink.pieces c.args.output.now) c.requires.step }
+
+pub lack_memory-requires : goal.lack_memory-requires
+lack_memory-requires g c = record { quiet = step_may_say g.D.Disk g.K.Sink.allows (g.K.Sink.pieces c.args.output.now) c.requires.step }
+
+pub begin-requires-clause-quiet : goal.begin-requires-clause-quiet
+begin-requires-clause-quiet g c = step_may_say g.D.Disk g.K.Sink.allows (g.K.Sink.pieces c.args.output.now) c.requires.step
 
 pub returns-in-Err-clause-ends : goal.returns-in-Err-clause-ends
 returns-in-Err-clause-ends g c =

@@ -1,7 +1,7 @@
 use Rattle.script_run.proofs.Names.{◌++◌, List, ℕ, ap, refl, sym, ◌∙◌, known_items, received, between}
 use Rattle.script_run.proofs.RunSteps.{ends_ran, same_outlet}
 use Rattle.script_run.proofs.ShownSteps.{paired_on}
-use Rattle.script_run.proofs.WrittenSteps.{stays, written_of}
+use Rattle.script_run.proofs.WrittenSteps.{go_on, stays, written_of}
 use Rattle.script_run.proofs.running.run_office.Goals as goal
 
 pub beside-requires : goal.beside-requires
@@ -15,6 +15,11 @@ beside-requires g c =
           (stays _ _ _ c.run_lanes-ran.result c.run_lanes-ran.ensures.refused))
           c.run_lanes-ran.ensures.ring;
     }
+
+pub end_ran-ending-requires-clause-step : goal.end_ran-ending-requires-clause-step
+end_ran-ending-requires-clause-step g c =
+    go_on g.D.Disk g.K.Sink.allows g.K.Sink.pieces c.args.output.now c.run_lanes-ran.new.output _ _ c.run_lanes-ran.result c.run_lanes-ran.ensures.step
+    c.requires.step c.run_lanes-ran.ensures.refused
 
 pub returns : goal.returns
 returns g c = record {

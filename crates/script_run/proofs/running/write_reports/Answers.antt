@@ -7,9 +7,10 @@ use Rattle.transcript_text.proofs.OnlyTold.{quiet_reports}
 use Rattle.script_run.proofs.running.write_reports.Goals as goal
 
 pub write_all_since-requires : goal.write_all_since-requires
-write_all_since-requires g c =
-    rw (c.as_slice.ensures.value ∙ c.in-Ok.ensures.text) (step_quiet g.D.Disk g.K.Sink.allows (taken_bytes (g.K.Sink.pieces c.args.output.now)) c.args.latest.now.states
-    c.requires.step _ (quiet_reports c.args.reports.now))
+write_all_since-requires g c = record {
+  allowed = rw (c.as_slice.ensures.value ∙ c.in-Ok.ensures.text) (step_quiet g.D.Disk g.K.Sink.allows (taken_bytes (g.K.Sink.pieces c.args.output.now))
+      c.args.latest.now.states c.requires.step _ (quiet_reports c.args.reports.now));
+}
 
 pub returns-in-Err-clause-ends : goal.returns-in-Err-clause-ends
 returns-in-Err-clause-ends g c = λ first held whole.

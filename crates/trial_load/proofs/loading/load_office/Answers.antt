@@ -1,6 +1,13 @@
 use Rattle.program_endings.specs.Writing.{Stream, between}
 use Rattle.trial_load.proofs.LoadSteps.{ends_loaded, load_answer}
+use Rattle.std.proofs.Common.{◌∙◌, sym}
+use Rattle.durable_lines.proofs.Together.{fresh_step}
 use Rattle.trial_load.proofs.loading.load_office.Goals as goal
+
+-- nothing was written to the output of the lines, which takes anything
+pub run_lanes-ran-requires-clause-step : goal.run_lanes-ran-requires-clause-step
+run_lanes-ran-requires-clause-step g c =
+    fresh_step g.D.Disk _ _ (sym c.new-nowhere.result.tied ∙ c.new-nowhere.ensures.bytes) (λ bytes states is. tt)
 
 pub write_loaded-ending-requires : goal.write_loaded-ending-requires
 write_loaded-ending-requires g c =
