@@ -9,8 +9,9 @@ use Rattle.basis_shelf.specs.declared.fault.BadBasis.{BadBasis}
 use Rattle.basis_shelf.specs.declared.fault.BasisWord.{BasisWord}
 use Rattle.basis_shelf.specs.declared.fault.BasisWord.TheVariants.{Absent, TooLong, BadRow, NotRising, TooManyRows, NotDocument, NoTable, Scaled, BadAge, AgeGap, BadRate, BadDuration, NoUltimate, UltimateGap}
 use Rattle.durable_lines.specs.Lines.{IsQuiet}
-use Rattle.durable_lines.proofs.FieldLaws.{AreBare, IsBare, bare_any, bare_by}
-use Rattle.durable_lines.proofs.QuietLines.{quiet_fields, quiet_word}
+use Rattle.durable_lines.proofs.AcceptedLines.{free_by, free_number}
+use Rattle.durable_lines.proofs.FieldLaws.{AreBare, IsBare, bare_any, bare_by, free_both}
+use Rattle.durable_lines.proofs.QuietLines.{quiet_fields, quiet_letters, quiet_word}
 use Rattle.durable_lines.proofs.Together.{step_quiet}
 use Rattle.durable_lines.specs.Steps.{IsInStep}
 use Rattle.outside_io.specs.Streams.{TakenPiece, taken_bytes}
@@ -31,8 +32,8 @@ quiet_notajournal = quiet_word (codes "badjournal,notajournal") refl (omega arit
 
 pub quiet_badrecord : (n : ℕ) → IsQuiet (codes "badjournal,badrecord," ++ decimal n ++ 10 ∷ [])
 quiet_badrecord n =
-    quiet_fields (codes "badjournal") (codes "badrecord" ∷ decimal n ∷ []) (bare_by (codes "badjournal") refl)
-    (bare_by (codes "badrecord") refl, (bare_any n, tt)) (omega arith)
+    quiet_letters (codes "badjournal,badrecord," ++ decimal n)
+    (free_both (codes "badjournal,badrecord,") (decimal n) (free_by (codes "badjournal,badrecord,") refl) (free_number n)) (omega arith)
 
 -- ---- the line of a bad file
 
