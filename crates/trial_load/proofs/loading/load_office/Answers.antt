@@ -9,14 +9,12 @@ pub run_lanes-ran-requires-clause-step : goal.run_lanes-ran-requires-clause-step
 run_lanes-ran-requires-clause-step g c =
     fresh_step g.D.Disk _ _ (sym c.new-nowhere.result.tied ∙ c.new-nowhere.ensures.bytes) (λ bytes states is. tt)
 
-pub write_loaded-ending-requires : goal.write_loaded-ending-requires
-write_loaded-ending-requires g c =
+pub write_loaded-ending-requires-clause-answer : goal.write_loaded-ending-requires-clause-answer
+write_loaded-ending-requires-clause-answer g c =
     let started = c.requires.started.1 in
-    record {
-      answer = load_answer g.D.Disk g.W.Watching c.requires.started.0 c.close-disk-2.result.0 c.args.lanes.now c.args.workers c.value-valued.result.turn
-          c.args.begun.basis started.0 c.args.begun.pass c.run_lanes-ran.new.pass c.value-valued.new.pass _ _ c.in-Ok.ran.transcript c.value-valued.result.answer started.1
-          c.in-Ok.ensures.answered c.in-Ok.ensures.facts c.value-valued.ensures.valued c.close-disk-2.ensures.facts c.close-disk-2.ensures.closed c.requires.lanes;
-    }
+    load_answer g.D.Disk g.W.Watching c.requires.started.0 c.close-disk-2.result.0 c.args.lanes.now c.args.workers c.value-valued.result.turn
+    c.args.begun.basis started.0 c.args.begun.pass c.run_lanes-ran.new.pass c.value-valued.new.pass _ _ c.in-Ok.ran.transcript c.value-valued.result.answer started.1
+    c.in-Ok.ensures.answered c.in-Ok.ensures.facts c.value-valued.ensures.valued c.close-disk-2.ensures.facts c.close-disk-2.ensures.closed c.requires.lanes
 
 pub returns : goal.returns
 returns g c =

@@ -12,14 +12,12 @@ returns-in-Err-clause-ends g c =
     (λ basis not. ends_refused g.D.Disk c.args.disk disk (IsProjected g.D.Disk c.args.disk disk c.args.on c.args.years basis) _ not.cause
     c.in-Err.finished.ending not.refused not.says) c.in-Err.ensures.ended
 
-pub write_answer-ending-requires : goal.write_answer-ending-requires
-write_answer-ending-requires g c =
+pub write_answer-ending-requires-clause-answer : goal.write_answer-ending-requires-clause-answer
+write_answer-ending-requires-clause-answer g c =
     let on : to_z w32 (of_z w32 c.args.on) ≡ c.args.on = to_z-of_z w32 c.args.on c.ranges.on in
-    record {
-      answer = answer_alone g.D.Disk _ c.args.disk c.close-disk.result.0 _ c.args.on c.args.years c.project-projected.result.turn
-          c.in-Ok.begun.basis c.in-Ok.begun.pass c.project-projected.new.pass _ _ c.project-projected.result.answer c.in-Ok.ensures.opened.started
-          c.close-disk.ensures.facts c.close-disk.ensures.closed (rw on at c.project-projected.ensures.projected) c.requires.day c.requires.years.1;
-    }
+    answer_alone g.D.Disk _ c.args.disk c.close-disk.result.0 _ c.args.on c.args.years c.project-projected.result.turn
+    c.in-Ok.begun.basis c.in-Ok.begun.pass c.project-projected.new.pass _ _ c.project-projected.result.answer c.in-Ok.ensures.opened.started
+    c.close-disk.ensures.facts c.close-disk.ensures.closed (rw on at c.project-projected.ensures.projected) c.requires.day c.requires.years.1
 
 pub returns-clause-ends : goal.returns-clause-ends
 returns-clause-ends g c =
