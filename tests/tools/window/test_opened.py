@@ -10,6 +10,9 @@ from pathlib import Path
 
 import pytest
 
+from life_tools.window.door import Door
+from life_tools.window.opened import Ended, ended
+from life_tools.window.server import served
 from tests.support.folders import Folder
 from tests.support.windows import PATIENCE, Window
 
@@ -100,3 +103,14 @@ def test_nothing_is_left(tools: Path, lived: Folder, tmp_path: Path) -> None:
     with Window(tools, lived.path, temporary=tmp_path / "own") as window:
         window.page("/1/")
     assert window.process.returncode == 0 and not list((tmp_path / "own").iterdir())
+
+
+def test_a_signal_that_comes_while_a_request_begins_ends_the_window() -> None:
+    """The server goes on after an Exception, which it takes for a failed request."""
+    server = served(Door(lambda environ, start: [], 0), 0)
+    server.process_request = lambda request, address: ended(15, None)
+    try:
+        with socket.create_connection(("127.0.0.1", server.server_port)), pytest.raises(Ended):
+            server.handle_request()
+    finally:
+        server.server_close()
